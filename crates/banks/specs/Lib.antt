@@ -1,0 +1,2 @@
+pub mod Banks
+pub mod Codes

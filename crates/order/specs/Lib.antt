@@ -1,0 +1,4 @@
+pub mod Deadlines
+pub mod Laws
+pub mod Meanings
+pub mod Ranks

@@ -1,0 +1,28 @@
+-- Ranks, and how two numbers rank: the smaller is ahead.
+use mathlib.Core.Path.{_≡_}
+use mathlib.Core.Bool.{Bool, true, false, cond}
+use Prim.Native.Nat.{ℕ, _<_}
+use lib.Dec.{ltb}
+use Rattle.order.specs.declared.criteria.Rank.{Rank}
+use Rattle.order.specs.declared.criteria.Rank.the-variants.{Ahead, Level, Behind}
+
+-- the rank of the second, seen from the first
+abbrev pub reversed : Rank → Rank
+reversed Ahead = Behind
+reversed Level = Level
+reversed Behind = Ahead
+
+-- ahead or level
+abbrev pub upTo : Rank → Bool
+upTo Ahead = true
+upTo Level = true
+upTo Behind = false
+
+abbrev pub smaller : ℕ → ℕ → Rank
+smaller m n = cond (ltb m n) Ahead (cond (ltb n m) Behind Level)
+
+-- the same as a relation: ahead is the smaller, level is equal
+abbrev pub Sized : Rank → ℕ → ℕ → Type 0
+Sized Ahead m n = m < n
+Sized Level m n = m ≡ n
+Sized Behind m n = n < m
