@@ -5,7 +5,7 @@ use Prim.Native.Nat.{ℕ, _+_, _∣_, _≤_}
 use Rattle.order.specs.declared.cores.Core.{Core}
 use Rattle.order.specs.declared.candidates.Candidate.{Candidate}
 use Rattle.order.specs.declared.criteria.Rank.{Rank}
-use Rattle.order.specs.Ranks.{reversed, upTo}
+use Rattle.order.specs.Ranks.{reversed, ahead-or-level}
 
 -- what a criterion means: how the first candidate ranks against the second, on a core at a time
 abbrev pub Ranking : Type 0
@@ -25,7 +25,7 @@ pub record Recurs (a b : Candidate) (t p : ℕ) : Type 0 where
 -- the ranks of a criterion: exchanging the two reverses them, they chain, and they repeat
 pub record Ranking-lawful (ranks : Ranking) : Type 0 where
   pub reverses : (k : Core) (a b : Candidate) (t : ℕ) → ranks k b a t ≡ reversed (ranks k a b t)
-  pub carries : (k : Core) (a b d : Candidate) (t : ℕ) → upTo (ranks k a b t) ≡ true → upTo (ranks k b d t) ≡ true → upTo (ranks k a d t) ≡ true
+  pub carries : (k : Core) (a b d : Candidate) (t : ℕ) → ahead-or-level (ranks k a b t) ≡ true → ahead-or-level (ranks k b d t) ≡ true → ahead-or-level (ranks k a d t) ≡ true
   pub repeats : (k : Core) (a b : Candidate) (t p : ℕ) → Recurs a b t p → ranks k a b (t + p) ≡ ranks k a b t
 
 -- they have different numbers

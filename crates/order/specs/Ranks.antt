@@ -13,16 +13,16 @@ reversed Level = Level
 reversed Behind = Ahead
 
 -- ahead or level
-abbrev pub upTo : Rank → Bool
-upTo Ahead = true
-upTo Level = true
-upTo Behind = false
+abbrev pub ahead-or-level : Rank → Bool
+ahead-or-level Ahead = true
+ahead-or-level Level = true
+ahead-or-level Behind = false
 
 abbrev pub smaller : ℕ → ℕ → Rank
 smaller m n = cond (ltb m n) Ahead (cond (ltb n m) Behind Level)
 
 -- the same as a relation: ahead is the smaller, level is equal
-abbrev pub Sized : Rank → ℕ → ℕ → Type 0
-Sized Ahead m n = m < n
-Sized Level m n = m ≡ n
-Sized Behind m n = n < m
+abbrev pub Smaller-ahead : Rank → ℕ → ℕ → Type 0
+Smaller-ahead Ahead m n = m < n
+Smaller-ahead Level m n = m ≡ n
+Smaller-ahead Behind m n = n < m

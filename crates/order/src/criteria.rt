@@ -4,7 +4,7 @@ ghost use Prim.Native.Nat.{ℕ, _+_, _-_, _^_, _≤_, _<_};
 ghost use Rattle.order.specs.declared.cores.Core.{Core};
 ghost use Rattle.order.specs.declared.candidates.Candidate.{Candidate};
 ghost use Rattle.order.specs.declared.criteria.Rank.{Rank};
-ghost use Rattle.order.specs.Ranks.{smaller, Sized};
+ghost use Rattle.order.specs.Ranks.{smaller, Smaller-ahead};
 ghost use Rattle.order.specs.Laws.{Ranking-lawful};
 ghost use Rattle.order.specs.Deadlines.{distance, Next};
 ghost use Rattle.order.specs.Meanings.{by-number, by-period, by-distance};
@@ -31,7 +31,7 @@ pub trait Criterion {
 
 fn by_smaller(x: u64, y: u64) -> Rank
     ensures value { λ r. ⌜ r ≡ smaller x y ⌝ }
-    ensures sized { λ r. ⌜ Sized r x y ⌝ }
+    ensures sized { λ r. ⌜ Smaller-ahead r x y ⌝ }
 {
     if x < y {
         Rank::Ahead
@@ -51,7 +51,7 @@ pub impl Criterion for FixedPriority as FixedPriorityCriterion {
 
     fn compare(&self, core: Core, a: Candidate, b: Candidate, t: u64) -> Rank
         ensures value { λ r. ⌜ r ≡ by-number core a b t ⌝ }
-        ensures sized { λ r. ⌜ Sized r (a .number) (b .number) ⌝ }
+        ensures sized { λ r. ⌜ Smaller-ahead r (a .number) (b .number) ⌝ }
     {
         by_smaller(a.number() as u64, b.number() as u64)
     }
@@ -66,7 +66,7 @@ pub impl Criterion for RateMonotonic as RateMonotonicCriterion {
 
     fn compare(&self, core: Core, a: Candidate, b: Candidate, t: u64) -> Rank
         ensures value { λ r. ⌜ r ≡ by-period core a b t ⌝ }
-        ensures sized { λ r. ⌜ Sized r (a .period) (b .period) ⌝ }
+        ensures sized { λ r. ⌜ Smaller-ahead r (a .period) (b .period) ⌝ }
     {
         by_smaller(a.period() as u64, b.period() as u64)
     }
@@ -98,7 +98,7 @@ pub fn distance_at(x: Candidate, t: u64) -> u64
 
 fn by_nearest(a: Candidate, b: Candidate, t: u64) -> Rank
     ensures value { λ r. ⌜ r ≡ smaller (distance (a .period) (a .offset) t) (distance (b .period) (b .offset) t) ⌝ }
-    ensures nearest { λ r. ⌜ ((d e : ℕ) → Next (a .period) (a .offset) t d → Next (b .period) (b .offset) t e → Sized r (d - t) (e - t)) ⌝ }
+    ensures nearest { λ r. ⌜ ((d e : ℕ) → Next (a .period) (a .offset) t d → Next (b .period) (b .offset) t e → Smaller-ahead r (d - t) (e - t)) ⌝ }
 {
     by_smaller(distance_at(a, t), distance_at(b, t))
 }
@@ -112,7 +112,7 @@ pub impl Criterion for EarliestDeadline as EarliestDeadlineCriterion {
 
     fn compare(&self, core: Core, a: Candidate, b: Candidate, t: u64) -> Rank
         ensures value { λ r. ⌜ r ≡ by-distance core a b t ⌝ }
-        ensures nearest { λ r. ⌜ ((d e : ℕ) → Next (a .period) (a .offset) t d → Next (b .period) (b .offset) t e → Sized r (d - t) (e - t)) ⌝ }
+        ensures nearest { λ r. ⌜ ((d e : ℕ) → Next (a .period) (a .offset) t d → Next (b .period) (b .offset) t e → Smaller-ahead r (d - t) (e - t)) ⌝ }
     {
         by_nearest(a, b, t)
     }

@@ -22,8 +22,6 @@ use std::alloc::Refused;
 use std::error::AnyError;
 use std::fmt;
 use std::io;
-use std::io::BufRead;
-use std::io::BufReader;
 
 // The longest round that a list may have.
 const LONGEST_ROUND: u32 = 16_777_216;
@@ -244,23 +242,22 @@ impl Account {
     }
 }
 
-// Reads the whole list; a bad line ends it with a message that names the line.
-fn read(rt: &LibcRuntime) -> Result<Listing, AnyError> {
-    let heap = rt.alloc();
+// Reads a whole list; a bad line ends it with a message that names the line.
+fn read(heap: Global, text: &str) -> Result<Listing, AnyError> {
     let mut list = Listing::new(heap);
-    for (at, line) in BufReader::new(rt.stdin()).lines(heap).enumerate() {
-        let line = line?;
-        if let Err(trouble) = list.add_line(heap, line.as_str()) {
+    for (at, line) in text.lines().enumerate() {
+        if let Err(trouble) = list.add_line(heap, line) {
             let number = at.saturating_add(1);
-            let text = format!(heap, "line {number}: {trouble}")?;
-            return Err(text.into());
+            let message = format!(heap, "line {number}: {trouble}")?;
+            return Err(message.into());
         }
     }
     Ok(list)
 }
 
 fn run(rt: &LibcRuntime) -> Result<(), AnyError> {
-    let list = read(rt)?;
+    let text = io::read_to_string(rt.alloc(), rt.stdin())?;
+    let list = read(rt.alloc(), text.as_str())?;
     let account = Account::of(rt, &list)?;
     rt.println(account)?;
     Ok(())
@@ -313,6 +310,16 @@ core 1 code|expected `code` and a number";
             check_eq(trouble(heap, &mut list, line)?.as_str(), message)?;
         }
         Ok(())
+    }
+
+    #[test]
+    fn the_bad_line_is_named(rt: LibcRuntime) -> Result<(), Fail> {
+        let heap = rt.alloc();
+        let text = "# cores\n\ncore 1 code 2\nhandler core 1 period 0 offset 0\n";
+        match read(heap, text) {
+            Ok(_) => Err(Fail::new("the fourth line is bad")),
+            Err(trouble) => check_eq(trouble.to_string(heap)?.as_str(), "line 4: the period is 0"),
+        }
     }
 
     #[test]
