@@ -7,11 +7,18 @@ ghost use Rattle.order.specs.declared.cores.Core.{Core};
 ghost use Rattle.order.specs.declared.candidates.Candidate.{Candidate};
 ghost use Rattle.banks.specs.Codes.{numberOf, codeIn, piled, coded};
 use crate::Bank;
+use crate::BankDiscipline;
 use crate::Side;
 use crate::Table;
+use order::candidates::Candidate;
 use order::cores::Core;
 use order::criteria;
+use order::criteria::EarliestDeadlineCriterion;
+use order::criteria::FixedPriorityCriterion;
+use order::criteria::RateMonotonicCriterion;
+use order::disciplines::Discipline;
 use order::disciplines::Numbered;
+use order::disciplines::NumberedDiscipline;
 
 /// The criterion of a core, as plans name it.
 #[derive(Clone, Copy)]
@@ -98,4 +105,11 @@ pub fn code_bank(codes: &[Code; 8]) -> CodeBank
         }
     }
     bank
+}
+
+/// Whether `a` goes before `b` under the bank of these codes.
+pub fn goes_first_by_code(codes: &[Code; 8], core: Core, a: Candidate, b: Candidate, t: u64) -> bool
+    ensures { λ r. ⌜ r ≡ coded (now (codes .entry)) core a b t ⌝ }
+{
+    code_bank(codes).goes_first(core, a, b, t)
 }
