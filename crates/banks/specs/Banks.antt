@@ -1,7 +1,7 @@
 -- Which of a bank's two sides answers for a core, and what the bank then means.
+use Prim.Native.Nat.{_-_}
 use mathlib.Core.Bool.{Bool}
 use mathlib.Core.List.{List}
-use Prim.Native.Nat.{ℕ, _-_}
 use lib.ListN.{getD}
 use Rattle.order.specs.declared.cores.Core.{Core}
 use Rattle.banks.specs.declared.Side.{Side}

@@ -1,6 +1,6 @@
 // The codes of the three criteria, and the bank that follows a code for each core.
 ghost use mathlib.Core.Path.{_≡_};
-ghost use Prim.Native.Nat.{ℕ, _-_, _<_};
+ghost use Prim.Native.Nat.{ℕ, _<_, _-_};
 ghost use Rattle.std.specs.Options.{Cases as BySome};
 ghost use Rattle.banks.specs.declared.codes.Code.{Code};
 ghost use Rattle.order.specs.declared.cores.Core.{Core};

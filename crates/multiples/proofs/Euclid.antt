@@ -1,8 +1,8 @@
 -- Euclid's algorithm gives the greatest common divisor, and through it the least common multiple.
 use mathlib.Core.Path.{_≡_, refl, sym, ap, _∙_}
-use mathlib.Core.Logic.{⊎-elim, _⊎_, inl, inr, _↔_}
-use Prim.Native.Nat.{ℕ, zero, suc, _+_, _-_, _*_, _/_, _%_, _∣_, _≤_, _<_}
-use native.Mathlib.Nat.{mod-lt, dvd-refl, dvd-zero, dvd-trans, dvd-mod-iff, dvd-mul-left, dvd-mul-right, dvd-mul-left-of-dvd, dvd-mul-right-of-dvd, dvd-sub, div-add-mod, mul-comm, mul-assoc, mul-sub, mul-add, le-of-dvd, div-mul-cancel, dvd-of-mul-dvd-mul-right, mul-dvd-mul-left, pos-of-dvd-of-pos, zero-div, zero-mul, mul-zero}
+use mathlib.Core.Logic.{_⊎_, inl, inr}
+use Prim.Native.Nat.{ℕ, zero, suc, _+_, _*_, _/_, _%_, _∣_, _≤_, _<_, _-_}
+use native.Mathlib.Nat.{mod-lt, dvd-refl, dvd-zero, dvd-mod-iff, dvd-mul-left, dvd-mul-right, dvd-mul-right-of-dvd, dvd-sub, div-add-mod, mul-comm, mul-assoc, mul-add, le-of-dvd, div-mul-cancel, dvd-of-mul-dvd-mul-right, mul-dvd-mul-left, pos-of-dvd-of-pos, zero-div, zero-mul, mul-zero}
 use native.Mathlib.Omega.{arith}
 use Rattle.multiples.specs.Multiples.{Greatest-common-divisor, Least-common-multiple, gcd-within, gcd, lcm}
 

@@ -1,6 +1,5 @@
 // Greatest common divisors and least common multiples.
 ghost use mathlib.Core.Path.{_≡_};
-ghost use Prim.Native.Nat.{_≤_};
 ghost use Rattle.std.specs.Slices.{found};
 ghost use Rattle.multiples.specs.Multiples.{gcd, lcm, within, Greatest-common-divisor, Least-common-multiple};
 

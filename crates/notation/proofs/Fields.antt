@@ -1,8 +1,7 @@
 -- How the words of a slice are taken apart.
 use mathlib.Core.Path.{_≡_, refl, sym, ap, subst, _∙_}
 use mathlib.Core.List.{List, [], _∷_}
-use mathlib.Core.Logic.{_≢_}
-use Prim.Native.Nat.{ℕ, _-_, _≤_, _<_}
+use Prim.Native.Nat.{ℕ, _≤_, _<_, _-_}
 use native.Mathlib.Omega.{arith}
 use lib.ListN.{length, getD, take, drop, length-map}
 use lib.Chars.{codes}
@@ -10,10 +9,9 @@ use denote.Ref.{RefT}
 use Rattle.std.proofs.shelf.Lists.{take-rest}
 use Rattle.std.specs.Reads.{value, afterPlus}
 use Rattle.notation.specs.declared.Key.{Key}
-use Rattle.notation.specs.declared.Key.the-variants.{Core, Period, Offset, Code}
 use Rattle.notation.specs.declared.Line.{Line}
 use Rattle.notation.specs.declared.Line.the-variants.{Empty, Handler, Choice}
-use Rattle.notation.specs.Lines.{texts, keyText, Writes, Field, Says-handler, Says-choice, Says, Then}
+use Rattle.notation.specs.Lines.{texts, Field, Says-handler, Says-choice, Says, Then}
 
 -- what a place past the end reads as
 abbrev pub blank : RefT (List ℕ)

@@ -1,7 +1,7 @@
 -- The formula for the distance leads to the least deadline after t, and repeats.
 use mathlib.Core.Path.{_≡_, ap, _∙_}
 use mathlib.Core.Logic.{⊎-elim}
-use Prim.Native.Nat.{ℕ, _+_, _-_, _*_, _/_, _%_, _∣_, _≤_, _<_}
+use Prim.Native.Nat.{ℕ, _+_, _*_, _/_, _%_, _∣_, _≤_, _<_, _-_}
 use native.Mathlib.Nat.{mod-lt, div-add-mod', add-mod, mod-mod, add-mul, one-mul, mul-le-mul-right, add-zero, mod-eq-zero-of-dvd}
 use native.Mathlib.Omega.{arith}
 use Rattle.std.proofs.shelf.Tests.{cases-lt}

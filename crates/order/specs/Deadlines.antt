@@ -1,6 +1,6 @@
 -- When the next deadline of a period and an offset falls, and how far off it is.
 use mathlib.Core.Path.{_≡_}
-use Prim.Native.Nat.{ℕ, _+_, _-_, _*_, _%_, _≤_, _<_}
+use Prim.Native.Nat.{ℕ, _+_, _*_, _%_, _≤_, _<_, _-_}
 
 -- e is a deadline: the end of the n-th period, counted from 1
 abbrev pub Deadline : ℕ → ℕ → ℕ → Type 0

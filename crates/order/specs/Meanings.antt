@@ -1,9 +1,7 @@
 -- What the three criteria, numbering over a criterion and a bank over two disciplines mean.
 use mathlib.Core.Bool.{Bool, true, false}
-use mathlib.Core.List.{List}
-use Prim.Native.Nat.{ℕ, _-_}
+use Prim.Native.Nat.{ℕ}
 use lib.Dec.{ltb}
-use lib.ListN.{getD}
 use Rattle.order.specs.declared.criteria.Rank.{Rank}
 use Rattle.order.specs.declared.criteria.Rank.the-variants.{Ahead, Level, Behind}
 use Rattle.order.specs.Deadlines.{distance}

@@ -1,6 +1,6 @@
 // Criteria: how two candidates rank on a core at a time.
 ghost use mathlib.Core.Path.{_≡_};
-ghost use Prim.Native.Nat.{ℕ, _+_, _-_, _^_, _≤_, _<_};
+ghost use Prim.Native.Nat.{ℕ, _+_, _^_, _≤_, _<_, _-_};
 ghost use Rattle.order.specs.declared.cores.Core.{Core};
 ghost use Rattle.order.specs.declared.candidates.Candidate.{Candidate};
 ghost use Rattle.order.specs.declared.criteria.Rank.{Rank};

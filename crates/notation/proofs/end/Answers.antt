@@ -1,8 +1,4 @@
-use native.Mathlib.Omega.{arith}
 use borrow.Author.Needs.{needs}
-use borrow.Author.Tests.{eqb-true, eqb-false}
-use lib.ListN.{length}
-use mathlib.Core.Path.{_≡_, ap, _∙_}
 use Rattle.notation.proofs.Fields.{texts-none, texts-some}
 use Rattle.notation.proofs.end.Needs as need
 

@@ -1,8 +1,7 @@
-use mathlib.Core.Path.{_≡_, sym, ap, _∙_}
+use mathlib.Core.Path.{_≡_}
 use native.Mathlib.Omega.{arith}
 use borrow.Author.Needs.{needs}
 use borrow.Author.Tests.{ltb-true, ltb-false}
-use lib.ListN.{getD}
 use Rattle.notation.specs.Lines.{keyText}
 use Rattle.notation.proofs.Fields.{word, split-two, too-few}
 use Rattle.notation.proofs.field.Needs as need

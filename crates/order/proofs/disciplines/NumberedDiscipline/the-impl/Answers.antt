@@ -1,9 +1,5 @@
-use mathlib.Core.Bool.{true}
-use mathlib.Core.Path.{_≡_}
 use native.Mathlib.Omega.{arith}
-use borrow.Author.Needs.{needs}
 use Rattle.std.proofs.shelf.Ways.{tells}
-use Rattle.order.specs.Ranks.{ahead-or-level, reversed}
 use Rattle.order.proofs.Lexical.{lexical}
 use Rattle.order.proofs.disciplines.NumberedDiscipline.the-impl.Needs as need
 
