@@ -28,6 +28,7 @@ gcd-within (suc f) a (suc b) = gcd-within f (suc b) (a % suc b)
 abbrev pub gcd : ℕ → ℕ → ℕ
 gcd a b = gcd-within b a b
 
+-- the least common multiple, as it is computed
 abbrev pub lcm : ℕ → ℕ → ℕ
 lcm a b = a / gcd a b * b
 

@@ -33,3 +33,19 @@ pub fn least_common_multiple(a: u32, b: u32, limit: u32) -> Option<u32>
         None
     }
 }
+
+#[cfg(test)]
+mod tests {
+    use crate::least_common_multiple;
+    use std::test::*;
+
+    // The bound itself is reached, and one past it is not.
+    #[test]
+    fn multiples_end_at_the_limit() -> Result<(), Fail> {
+        check_eq(
+            least_common_multiple(16_777_216, 2, 16_777_216),
+            Some(16_777_216),
+        )?;
+        check_eq(least_common_multiple(24_929, 673, 16_777_216), None)
+    }
+}

@@ -1,0 +1,9 @@
+pub mod Answered
+pub mod Blanks
+pub mod Changes
+pub mod Closing
+pub mod Facts
+pub mod Histories
+pub mod Kept
+pub mod Rounds
+pub mod Routes

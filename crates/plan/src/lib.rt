@@ -1,0 +1,4 @@
+// Plans: handlers and joins, and the calls that change them.
+pub mod plans;
+#[cfg(test)]
+mod tests;
