@@ -4,14 +4,11 @@ use mathlib.Core.List.{List, [], _∷_}
 use Prim.Native.Nat.{ℕ, _≤_, _<_, _-_}
 use native.Mathlib.Omega.{arith}
 use lib.ListN.{length, getD, take, drop, length-map}
-use lib.Chars.{codes}
 use denote.Ref.{RefT}
 use Rattle.std.proofs.shelf.Lists.{take-rest}
 use Rattle.std.specs.Reads.{value, afterPlus}
 use Rattle.notation.specs.declared.Key.{Key}
-use Rattle.notation.specs.declared.Line.{Line}
-use Rattle.notation.specs.declared.Line.the-variants.{Empty, Handler, Choice}
-use Rattle.notation.specs.Lines.{texts, Field, Says-handler, Says-choice, Says, Then}
+use Rattle.notation.specs.Lines.{texts, Field, Then}
 
 -- what a place past the end reads as
 abbrev pub blank : RefT (List ℕ)
@@ -55,44 +52,3 @@ missing ws key Such none n (rest, f, _) = none n rest f
 pub after : (ws : List (List ℕ)) (key : Key) (m : ℕ) (rest : List (List ℕ)) (Such : List (List ℕ) → Type 0) →
     Field ws key m rest → (Such rest → ⊥) → (n : ℕ) → Then ws key n Such → ⊥
 after ws key m rest Such f none n (more, g, such) = none (subst Such (sym (field-unique ws key m n rest more f g .1)) such)
-
-pub no-choice : (ws : List (List ℕ)) → ((core code : ℕ) → Says-choice ws (Choice core code) → ⊥) → (line : Line) → Says-choice ws line → ⊥
-no-choice ws none Empty says = says
-no-choice ws none (Handler core period offset) says = says
-no-choice ws none (Choice core code) says = none core code says
-
-pub no-handler : (ws : List (List ℕ)) → ((core period offset : ℕ) → Says-handler ws (Handler core period offset) → ⊥) → (line : Line) → Says-handler ws line → ⊥
-no-handler ws none Empty says = says
-no-handler ws none (Handler core period offset) says = none core period offset says
-no-handler ws none (Choice core code) says = says
-
--- a line cannot begin with both words
-two-starts : (rest more : List (List ℕ)) → codes "handler" ∷ rest ≡ codes "core" ∷ more → ⊥
-two-starts rest more e = let z : _≡_ {A = ℕ} 104 99 = cc in omega arith
-
-no-words : (w : List ℕ) (rest : List (List ℕ)) → w ∷ rest ≡ [] → ⊥
-no-words w rest e = omega (arith, ap length e)
-
-module _ (ws rest : List (List ℕ)) (is : ws ≡ codes "handler" ∷ rest) where
-  pub handler-says : (line : Line) → Says-handler rest line → Says ws line
-  handler-says Empty says = absurd says
-  handler-says (Handler core period offset) says = (rest, is, says)
-  handler-says (Choice core code) says = absurd says
-
-  pub handler-unsaid : ((line : Line) → Says-handler rest line → ⊥) → (line : Line) → Says ws line → ⊥
-  handler-unsaid none Empty says = no-words (codes "handler") rest (sym is ∙ says)
-  handler-unsaid none (Handler core period offset) (more, also, says) =
-      let same : more ≡ rest = cc in
-      none (Handler core period offset) (rw same at says)
-  handler-unsaid none (Choice core code) (more, (word, also, _), _) = two-starts rest (word ∷ more) (sym is ∙ also)
-
-module _ (ws more : List (List ℕ)) (is : ws ≡ codes "core" ∷ more) where
-  pub choice-says : (line : Line) → Says-choice ws line → Says ws line
-  choice-says Empty says = absurd says
-  choice-says (Handler core period offset) says = absurd says
-  choice-says (Choice core code) says = says
-
-  pub choice-unsaid : ((line : Line) → Says-choice ws line → ⊥) → (line : Line) → Says ws line → ⊥
-  choice-unsaid none Empty says = no-words (codes "core") more (sym is ∙ says)
-  choice-unsaid none (Handler core period offset) (rest, also, says) = two-starts rest more (sym also ∙ is)
-  choice-unsaid none (Choice core code) says = none (Choice core code) says

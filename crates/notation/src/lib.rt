@@ -3,8 +3,11 @@ ghost use mathlib.Core.Path.{_≡_};
 ghost use mathlib.Core.List.{List, []};
 ghost use Prim.Native.Nat.{ℕ};
 ghost use Rattle.std.specs.Results.{Cases};
+ghost use Rattle.notation.specs.declared.HandlerLine.{HandlerLine};
+ghost use Rattle.notation.specs.declared.JoinLine.{JoinLine};
+ghost use Rattle.notation.specs.declared.CoreLine.{CoreLine};
 ghost use Rattle.notation.specs.declared.Line.{Line};
-ghost use Rattle.notation.specs.Lines.{texts, keyText, Field, Says-handler, Says-choice, Says};
+ghost use Rattle.notation.specs.Lines.{texts, keyText, Field, Says-handler, Says-join, Says-core, Says};
 use std::fmt;
 
 /// A word that says what the number after it is.
@@ -13,7 +16,11 @@ pub enum Key {
     Core,
     Period,
     Offset,
+    Shortest,
+    Longest,
     Code,
+    First,
+    Second,
 }
 
 impl Key {
@@ -24,17 +31,46 @@ impl Key {
             Key::Core => "core",
             Key::Period => "period",
             Key::Offset => "offset",
+            Key::Shortest => "shortest",
+            Key::Longest => "longest",
             Key::Code => "code",
+            Key::First => "first",
+            Key::Second => "second",
         }
     }
+}
+
+/// The numbers of a handler, as a line gives them.
+#[derive(Clone, Copy)]
+pub struct HandlerLine {
+    pub core: u16,
+    pub period: u16,
+    pub offset: u16,
+    pub shortest: u16,
+    pub longest: u16,
+}
+
+/// The numbers of two handlers, the first of which goes before the second.
+#[derive(Clone, Copy)]
+pub struct JoinLine {
+    pub first: u16,
+    pub second: u16,
+}
+
+/// The code of a core's discipline.
+#[derive(Clone, Copy)]
+pub struct CoreLine {
+    pub core: u16,
+    pub code: u16,
 }
 
 /// What a line says.
 #[derive(Clone, Copy)]
 pub enum Line {
     Empty,
-    Handler { core: u16, period: u16, offset: u16 },
-    Choice { core: u16, code: u16 },
+    Handler(HandlerLine),
+    Join(JoinLine),
+    CoreCode(CoreLine),
 }
 
 /// What is wrong with a line.
@@ -74,28 +110,42 @@ fn end(words: &[&str]) -> Result<(), Problem>
 }
 
 // The line that goes on after `handler`.
-fn handler(words: &[&str]) -> Result<Line, Problem>
-    ensures { λ r. ⌜ Cases r (λ line. Says-handler (texts (now (words .entry))) line) (λ _. (line : Line) → Says-handler (texts (now (words .entry))) line → ⊥) ⌝ }
+fn handler(words: &[&str]) -> Result<HandlerLine, Problem>
+    ensures { λ r. ⌜ Cases r (λ h. Says-handler (texts (now (words .entry))) h) (λ _. (h : HandlerLine) → Says-handler (texts (now (words .entry))) h → ⊥) ⌝ }
 {
     let (core, words) = field(words, Key::Core)?;
     let (period, words) = field(words, Key::Period)?;
     let (offset, words) = field(words, Key::Offset)?;
+    let (shortest, words) = field(words, Key::Shortest)?;
+    let (longest, words) = field(words, Key::Longest)?;
     end(words)?;
-    Ok(Line::Handler {
+    Ok(HandlerLine {
         core,
         period,
         offset,
+        shortest,
+        longest,
     })
 }
 
+// The line that goes on after `join`.
+fn join(words: &[&str]) -> Result<JoinLine, Problem>
+    ensures { λ r. ⌜ Cases r (λ j. Says-join (texts (now (words .entry))) j) (λ _. (j : JoinLine) → Says-join (texts (now (words .entry))) j → ⊥) ⌝ }
+{
+    let (first, words) = field(words, Key::First)?;
+    let (second, words) = field(words, Key::Second)?;
+    end(words)?;
+    Ok(JoinLine { first, second })
+}
+
 // The line that gives a core its code.
-fn choice(words: &[&str]) -> Result<Line, Problem>
-    ensures { λ r. ⌜ Cases r (λ line. Says-choice (texts (now (words .entry))) line) (λ _. (line : Line) → Says-choice (texts (now (words .entry))) line → ⊥) ⌝ }
+fn core(words: &[&str]) -> Result<CoreLine, Problem>
+    ensures { λ r. ⌜ Cases r (λ k. Says-core (texts (now (words .entry))) k) (λ _. (k : CoreLine) → Says-core (texts (now (words .entry))) k → ⊥) ⌝ }
 {
     let (core, words) = field(words, Key::Core)?;
     let (code, words) = field(words, Key::Code)?;
     end(words)?;
-    Ok(Line::Choice { core, code })
+    Ok(CoreLine { core, code })
 }
 
 /// What the words of a line say; a line with no word says nothing.
@@ -106,9 +156,11 @@ pub fn parse_words(words: &[&str]) -> Result<Line, Problem>
         return Ok(Line::Empty);
     };
     if *start == "handler" {
-        handler(rest)
-    } else if *start == Key::Core.text() {
-        choice(words)
+        Ok(Line::Handler(handler(rest)?))
+    } else if *start == "join" {
+        Ok(Line::Join(join(rest)?))
+    } else if *start == "core" {
+        Ok(Line::CoreCode(core(words)?))
     } else {
         Err(Problem::UnknownStart)
     }
@@ -117,7 +169,7 @@ pub fn parse_words(words: &[&str]) -> Result<Line, Problem>
 pub impl fmt::Display for Problem as ProblemDisplay {
     fn fmt<W: fmt::Write>(&self, f: &mut fmt::Formatter<W>) -> fmt::Result {
         match self {
-            Problem::UnknownStart => write!(f, "a line begins with `handler` or `core`"),
+            Problem::UnknownStart => write!(f, "a line begins with `handler`, `join` or `core`"),
             Problem::NoField(key) => {
                 let name = key.text();
                 write!(f, "expected `{name}` and a number")
