@@ -12,6 +12,7 @@ use Rattle.order.specs.Laws.{Choice}
 abbrev pub sideAt : List Side → Core → Side
 sideAt sides k = getD sides (k .number - 1) Left
 
+-- the answer of the side
 abbrev pub chosen : Side → Bool → Bool → Bool
 chosen Left l r = l
 chosen Right l r = r

@@ -11,6 +11,7 @@ use Rattle.banks.specs.Banks.{sideAt, banked}
 use Rattle.order.specs.Laws.{Ranking, Choice}
 use Rattle.order.specs.Meanings.{by-number, by-period, by-distance, numbered}
 
+-- the number that a plan names the code by
 abbrev pub numberOf : Code → ℕ
 numberOf FixedPriority = 1
 numberOf RateMonotonic = 2
@@ -41,5 +42,6 @@ codeOn Left inner = FixedPriority
 codeOn Right Left = RateMonotonic
 codeOn Right Right = EarliestDeadline
 
+-- the code of a core, by the two tables of the pile
 abbrev pub codeIn : List Side → List Side → Core → Code
 codeIn outer inner k = codeOn (sideAt outer k) (sideAt inner k)

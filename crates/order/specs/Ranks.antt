@@ -18,6 +18,7 @@ ahead-or-level Ahead = true
 ahead-or-level Level = true
 ahead-or-level Behind = false
 
+-- how two numbers rank: the smaller is ahead
 abbrev pub smaller : ℕ → ℕ → Rank
 smaller m n = cond (ltb m n) Ahead (cond (ltb n m) Behind Level)
 
