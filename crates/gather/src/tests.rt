@@ -37,18 +37,18 @@ impl Rule for Doubling as DoublingRule {
     }
 }
 
-// How a gathering from 1 into so many rows ends: a word, the level, and the count or the fault.
-fn ended(rows: &mut [u8], stop: u8) -> (u8, usize, usize) {
+// How a gathering from 1 ends: a word, the level or the levels, and the count where there is one.
+fn ended(rows: &mut [u8], stop: u8) -> (&'static str, usize, usize) {
     let mut rule = Doubling { at: [1], stop };
     match gather(&mut rule, rows) {
-        Ok(closed) => (0, closed.levels, closed.count),
+        Ok(closed) => ("closed", closed.levels, closed.count),
         Err(halt) => match halt {
-            Halt::Full { level } => (1, level, 0),
+            Halt::Full { level } => ("full", level, 0),
             Halt::Fault {
                 level,
                 count,
                 fault: _fault,
-            } => (2, level, count),
+            } => ("fault", level, count),
         },
     }
 }
@@ -56,20 +56,20 @@ fn ended(rows: &mut [u8], stop: u8) -> (u8, usize, usize) {
 #[test]
 fn it_closes_where_nothing_new_comes() -> Result<(), Fail> {
     let mut rows = [9; 5];
-    check(ended(&mut rows, 7) == (0, 3, 3))?;
+    check(ended(&mut rows, 7) == ("closed", 3, 3))?;
     check(rows == [1, 2, 4, 9, 9])
 }
 
 #[test]
 fn it_tells_at_which_level_the_rows_are_full() -> Result<(), Fail> {
     let mut rows = [9; 2];
-    check(ended(&mut rows, 7) == (1, 2, 0))?;
+    check(ended(&mut rows, 7) == ("full", 2, 0))?;
     check(rows == [1, 2])
 }
 
 #[test]
 fn it_tells_at_which_level_the_rule_faulted() -> Result<(), Fail> {
     let mut rows = [9; 5];
-    check(ended(&mut rows, 2) == (2, 1, 2))?;
+    check(ended(&mut rows, 2) == ("fault", 1, 2))?;
     check(rows == [1, 2, 9, 9, 9])
 }

@@ -9,10 +9,25 @@ use lib.ListN.{getD, set, take, length}
 use lib.Dec.{eqb}
 use Rattle.std.proofs.shelf.Tests.{cases-eq, eq-eqb, ne-eqb, eqb-true, or-cases, or-right, and-parts, and-from, and-left, and-right}
 use Rattle.std.proofs.shelf.Lists.{getD-set-same, getD-set-other, getD-take, getD-default, take-more-set, length-set}
+use Rattle.std.proofs.shelf.Sums.{folded-push}
+use Rattle.multiples.specs.Multiples.{lcm}
 use Rattle.terms.specs.declared.handlers.Handler.{Handler}
 use Rattle.plan.specs.Rows.{blank, In-range, All-in-range, Blank-from, round-of, settling-of}
 use Rattle.plan.specs.Joins.{joined-in, linked, Chain, one, more, Leads, Inside, One-period, One-offset, No-circle, Wide}
-use Rattle.plan.proofs.Rounds.{settling-push, round-set, settling-set}
+use Rattle.plan.proofs.Rounds.{folded-set}
+
+-- ---- one row written
+
+module _ (hs : List Handler) (i : ℕ) (h : Handler) (fits : i < length hs) (n : ℕ) where
+  pub set-ranges : ((a : ℕ) → a < n → a ≢ i → In-range (getD hs a blank)) → In-range h → All-in-range n (set hs i h)
+  set-ranges all here a lt =
+      elim (cases-eq a i) [
+        | inl e ↦ rw e (rw (getD-set-same hs i h blank fits) here)
+        | inr ne ↦ rw (getD-set-other hs i a h blank ne) (all a lt ne)
+      ]
+
+  pub set-blanks : i < n → Blank-from n hs → Blank-from n (set hs i h)
+  set-blanks lt all a ge = let ne : a ≢ i = λ e. omega arith in getD-set-other hs i a h blank ne ∙ all a ge
 
 -- ---- one handler more
 
@@ -21,20 +36,16 @@ module _ (n : ℕ) (hs : List Handler) (h : Handler) (fits : n < length hs) wher
   grow-rows = take-more-set hs n h fits
 
   pub grow-ranges : All-in-range n hs → In-range h → All-in-range (n + 1) (set hs n h)
-  grow-ranges all here i lt =
-      elim (cases-eq i n) [
-        | inl e ↦ rw e (rw (getD-set-same hs n h blank fits) here)
-        | inr ne ↦ rw (getD-set-other hs n i h blank ne) (all i (omega arith))
-      ]
+  grow-ranges all here = set-ranges hs n h fits (n + 1) (λ a lt ne. all a (omega arith)) here
 
   pub grow-blanks : Blank-from n hs → Blank-from (n + 1) (set hs n h)
-  grow-blanks all i ge = let ne : i ≢ n = λ e. omega arith in getD-set-other hs n i h blank ne ∙ all i (omega arith)
+  grow-blanks all = set-blanks hs n h fits (n + 1) (omega arith) (λ a ge. all a (omega arith))
 
   pub grow-round : (m : ℕ) → m ≡ round-of (take n hs ++ h ∷ []) → m ≡ round-of (take (n + 1) (set hs n h))
   grow-round m e = e ∙ ap round-of (sym grow-rows)
 
   pub grow-settling : (m : ℕ) → m ≡ settling-of (take n hs) → max m (h .offset) ≡ settling-of (take (n + 1) (set hs n h))
-  grow-settling m e = ap (λ x. max x (h .offset)) e ∙ sym (settling-push 0 (take n hs) h) ∙ ap settling-of (sym grow-rows)
+  grow-settling m e = ap (λ x. max x (h .offset)) e ∙ sym (folded-push (λ m x. max m (x .offset)) 0 (take n hs) h) ∙ ap settling-of (sym grow-rows)
 
   module _ (table : List (List Bool)) (inside : Inside n table) where
     same : (a : ℕ) → a < n → getD (set hs n h) a blank ≡ getD hs a blank
@@ -43,13 +54,16 @@ module _ (n : ℕ) (hs : List Handler) (h : Handler) (fits : n < length hs) wher
     pub grow-inside : Inside (n + 1) table
     grow-inside a b j = (omega (arith, inside a b j .0), omega (arith, inside a b j .1))
 
+    -- a field that joined handlers have alike
+    grow-field : (f : Handler → ℕ) → ((a b : ℕ) → joined-in table a b ≡ true → f (getD hs a blank) ≡ f (getD hs b blank))
+        → (a b : ℕ) → joined-in table a b ≡ true → f (getD (set hs n h) a blank) ≡ f (getD (set hs n h) b blank)
+    grow-field f all a b j = ap f (same a (inside a b j .0)) ∙ all a b j ∙ sym (ap f (same b (inside a b j .1)))
+
     pub grow-periods : One-period hs table → One-period (set hs n h) table
-    grow-periods all a b j =
-        ap (λ (x : Handler). x .period) (same a (inside a b j .0)) ∙ all a b j ∙ sym (ap (λ (x : Handler). x .period) (same b (inside a b j .1)))
+    grow-periods = grow-field (λ x. x .period)
 
     pub grow-offsets : One-offset hs table → One-offset (set hs n h) table
-    grow-offsets all a b j =
-        ap (λ (x : Handler). x .offset) (same a (inside a b j .0)) ∙ all a b j ∙ sym (ap (λ (x : Handler). x .offset) (same b (inside a b j .1)))
+    grow-offsets = grow-field (λ x. x .offset)
 
 -- ---- one handler on another core
 
@@ -68,16 +82,6 @@ module _ (hs : List Handler) (i : ℕ) (h : Handler) (fits : i < length hs) wher
         | inr ne ↦ ap f (getD-set-other hs i a h blank ne)
       ]
 
-  pub seat-ranges : (n : ℕ) → All-in-range n hs → In-range h → All-in-range n (set hs i h)
-  seat-ranges n all here a lt =
-      elim (cases-eq a i) [
-        | inl e ↦ rw e (rw (getD-set-same hs i h blank fits) here)
-        | inr ne ↦ rw (getD-set-other hs i a h blank ne) (all a lt)
-      ]
-
-  pub seat-blanks : (n : ℕ) → i < n → Blank-from n hs → Blank-from n (set hs i h)
-  seat-blanks n lt all a ge = let ne : a ≢ i = λ e. omega arith in getD-set-other hs i a h blank ne ∙ all a ge
-
   module _ (n : ℕ) (lt : i < n) where
     pub seat-rows : take n (set hs i h) ≡ set (take n hs) i h
     seat-rows = take-set-in n hs i h lt
@@ -86,10 +90,10 @@ module _ (hs : List Handler) (i : ℕ) (h : Handler) (fits : i < length hs) wher
     at-take = getD-take n hs i h lt ∙ getD-default hs i h blank fits
 
     pub seat-round : h .period ≡ getD hs i blank .period → round-of (take n (set hs i h)) ≡ round-of (take n hs)
-    seat-round e = ap round-of seat-rows ∙ round-set 1 (take n hs) i h (e ∙ ap (λ (x : Handler). x .period) (sym at-take))
+    seat-round e = ap round-of seat-rows ∙ folded-set (λ m x. lcm m (x .period)) 1 (take n hs) i h (λ m. ap (lcm m) (e ∙ ap (λ (x : Handler). x .period) (sym at-take)))
 
     pub seat-settling : h .offset ≡ getD hs i blank .offset → settling-of (take n (set hs i h)) ≡ settling-of (take n hs)
-    seat-settling e = ap settling-of seat-rows ∙ settling-set 0 (take n hs) i h (e ∙ ap (λ (x : Handler). x .offset) (sym at-take))
+    seat-settling e = ap settling-of seat-rows ∙ folded-set (λ m x. max m (x .offset)) 0 (take n hs) i h (λ m. ap (max m) (e ∙ ap (λ (x : Handler). x .offset) (sym at-take)))
 
 -- ---- one join more
 

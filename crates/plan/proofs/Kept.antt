@@ -15,7 +15,7 @@ use Rattle.plan.specs.Contents.{Contents, contents, at, round, empty}
 use Rattle.plan.specs.Calls.{added, Takes, with-join, May-join, seated, reseated, May-seat}
 use Rattle.plan.proofs.Answered.{circle-from-leads}
 use Rattle.plan.proofs.Blanks.{blank-row, none-joined, not-joined, no-chain, all-wide}
-use Rattle.plan.proofs.Changes.{grow-rows, grow-ranges, grow-blanks, grow-round, grow-settling, grow-inside, grow-periods, grow-offsets, seat-field, seat-ranges, seat-blanks, seat-rows, seat-round, seat-settling, link-number, link-wide, link-inside, link-periods, link-offsets, link-straight}
+use Rattle.plan.proofs.Changes.{grow-rows, grow-ranges, grow-blanks, grow-round, grow-settling, grow-inside, grow-periods, grow-offsets, set-ranges, set-blanks, seat-field, seat-rows, seat-round, seat-settling, link-number, link-wide, link-inside, link-periods, link-offsets, link-straight}
 use Rattle.plan.proofs.Facts.{recurring, rows-length, at-is}
 use Rattle.plan.proofs.Rounds.{round-least, settling-greatest}
 
@@ -167,8 +167,8 @@ module _ (p : Plan) (n c : ℕ) (m : May-seat (contents p) n c) where
       facts-from (p .count) (p .round) (p .settling) (set (p .handlers) i h) (p .joins)
       (record {
         few = p .few;
-        ranges = seat-ranges (p .handlers) i h within (p .count) (p .ranges) (g .0, g .1, g .2, m .low, m .high);
-        blanks = seat-blanks (p .handlers) i h within (p .count) np (p .blanks);
+        ranges = set-ranges (p .handlers) i h within (p .count) (λ a lt ne. p .ranges a lt) (g .0, g .1, g .2, m .low, m .high);
+        blanks = set-blanks (p .handlers) i h within (p .count) np (p .blanks);
         rounds = p .rounds ∙ sym (seat-round (p .handlers) i h within (p .count) np refl);
         short = p .short;
         settles = p .settles ∙ sym (seat-settling (p .handlers) i h within (p .count) np refl);

@@ -1,26 +1,18 @@
 -- The round is the least number that every period divides, and the settling time the greatest offset.
 use mathlib.Core.Path.{_≡_, refl, sym, ap, subst, _∙_}
-use mathlib.Core.List.{List, [], _∷_, _++_}
+use mathlib.Core.List.{List, [], _∷_}
 use mathlib.Core.Logic.{_⊎_, inl, inr}
 use Prim.Native.Nat.{ℕ, zero, suc, max, _*_, _∣_, _≤_}
 use native.Mathlib.Nat.{le-of-dvd, pos-of-dvd-of-pos, dvd-trans, dvd-refl, dvd-mul-left, dvd-mul-right, mul-pos, one-dvd, le-max-left, le-max-right, le-trans, max-eq-left, max-eq-right}
 use native.Mathlib.Omega.{arith}
 use lib.ListN.{getD, set}
-use Rattle.std.specs.shelf.Lists.{Has}
+use Rattle.std.specs.shelf.Lists.{Has, folded}
 use Rattle.std.proofs.shelf.Tests.{cases-lt}
 use Rattle.gather.proofs.Counting.{has-here, has-there, has-cases}
 use Rattle.multiples.specs.Multiples.{lcm}
 use Rattle.multiples.proofs.Euclid.{lcm-is}
 use Rattle.terms.specs.declared.handlers.Handler.{Handler}
 use Rattle.plan.specs.Rows.{round-from, round-of, settling-from, settling-of, Common, Least-round, Greatest-offset}
-
-pub round-push : (m : ℕ) (hs : List Handler) (h : Handler) → round-from m (hs ++ h ∷ []) ≡ lcm (round-from m hs) (h .period)
-round-push m [] h = refl
-round-push m (x ∷ hs) h = round-push (lcm m (x .period)) hs h
-
-pub settling-push : (m : ℕ) (hs : List Handler) (h : Handler) → settling-from m (hs ++ h ∷ []) ≡ max (settling-from m hs) (h .offset)
-settling-push m [] h = refl
-settling-push m (x ∷ hs) h = settling-push (max m (x .offset)) hs h
 
 -- every handler has a period
 abbrev pub Recurring : List Handler → Type 0
@@ -91,13 +83,8 @@ settling-greatest hs =
       tight = λ n bound. elim (g .one-of) [ inl w ↦ omega (arith, bound (w .0) (w .1), w .2) | inr e ↦ omega (arith, e) ];
     }
 
--- a handler in the place of one with the same period and offset changes neither
-pub round-set : (m : ℕ) (hs : List Handler) (i : ℕ) (h : Handler) → h .period ≡ getD hs i h .period → round-from m (set hs i h) ≡ round-from m hs
-round-set m [] i h e = refl
-round-set m (x ∷ hs) zero h e = ap (λ n. round-from (lcm m n) hs) e
-round-set m (x ∷ hs) (suc i) h e = round-set (lcm m (x .period)) hs i h e
-
-pub settling-set : (m : ℕ) (hs : List Handler) (i : ℕ) (h : Handler) → h .offset ≡ getD hs i h .offset → settling-from m (set hs i h) ≡ settling-from m hs
-settling-set m [] i h e = refl
-settling-set m (x ∷ hs) zero h e = ap (λ n. settling-from (max m n) hs) e
-settling-set m (x ∷ hs) (suc i) h e = settling-set (max m (x .offset)) hs i h e
+-- an element in the place of one that counts for the same changes nothing
+pub folded-set : {X Y : Type 0} (f : Y → X → Y) (a : Y) (xs : List X) (i : ℕ) (x : X) → ((y : Y) → f y x ≡ f y (getD xs i x)) → folded f a (set xs i x) ≡ folded f a xs
+folded-set f a [] i x e = refl
+folded-set f a (y ∷ xs) zero x e = ap (λ b. folded f b xs) (e a)
+folded-set f a (y ∷ xs) (suc i) x e = folded-set f (f a y) xs i x e

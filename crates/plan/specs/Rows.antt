@@ -1,9 +1,9 @@
 -- Handlers in a row: their ranges, the round and the settling time.
 use mathlib.Core.Path.{_≡_}
-use mathlib.Core.List.{List, [], _∷_}
+use mathlib.Core.List.{List}
 use Prim.Native.Nat.{ℕ, max, _∣_, _≤_, _<_}
 use lib.ListN.{getD}
-use Rattle.std.specs.shelf.Lists.{Has}
+use Rattle.std.specs.shelf.Lists.{Has, folded}
 use Rattle.multiples.specs.Multiples.{lcm}
 use Rattle.terms.specs.declared.handlers.Handler.{Handler}
 
@@ -25,8 +25,7 @@ Blank-from n hs = (i : ℕ) → n ≤ i → getD hs i blank ≡ blank
 
 -- the least common multiple of m and the periods
 abbrev pub round-from : ℕ → List Handler → ℕ
-round-from m [] = m
-round-from m (h ∷ hs) = round-from (lcm m (h .period)) hs
+round-from m hs = folded (λ n h. lcm n (h .period)) m hs
 
 -- the round (the hyperperiod): the least common multiple of the periods, 1 for none
 abbrev pub round-of : List Handler → ℕ
@@ -38,8 +37,7 @@ longest-round = 16777216
 
 -- the greatest of m and the offsets
 abbrev pub settling-from : ℕ → List Handler → ℕ
-settling-from m [] = m
-settling-from m (h ∷ hs) = settling-from (max m (h .offset)) hs
+settling-from m hs = folded (λ n h. max n (h .offset)) m hs
 
 -- the settling time: the greatest offset, 0 for none
 abbrev pub settling-of : List Handler → ℕ
