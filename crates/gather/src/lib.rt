@@ -8,7 +8,7 @@ ghost use Rattle.std.proofs.Common.{rules};
 
 /// Elements that `==` tells apart: two that it says are equal are one.
 pub trait Element: Copy + PartialEq {
-    ghost told: { Tells (λ x' y' r'. r' ≡ Self.PartialEq.eq x' y') };
+    ghost told: { Tells (λ x y r. Self.PartialEq.eq x y ≡ r) };
 }
 
 impl Element for u8 {

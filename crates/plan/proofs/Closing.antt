@@ -23,7 +23,7 @@ steps s t = (table_of t ≡ table_of s) × Follows (table_of s) (shows s) (shows
 
 module _ (s : Along) (from : ℕ) (is : shows s ≡ from ∷ []) (small : from < 64) (inside : (x y : ℕ) → joined_in (table_of s) x y ≡ true → y < 64) where
   pub closing : (t : Along) (n m : ℕ) (found : List ℕ) (to : ℕ) (r : Bool) → Closes shows steps s n t (take m found)
-      → IsAnyAnswer (λ y t. Decides t (y ≡ to)) (take (m - 0) found) r → Decides r (Leads (joined_in (table_of s)) from to)
+      → IsAnyAnswer (λ y t. eqb y to ≡ t) (take (m - 0) found) r → Decides r (Leads (joined_in (table_of s)) from to)
   closing t n m found to r w c =
       let e : m - 0 ≡ m = omega arith in
       let d = contains_decides eqb Decides-eqb (take (m - 0) found) to r c in (

@@ -20,20 +20,20 @@ recurring n hs le all h m =
 
 module _ (p : Plan) where
   pub rows_length : length (take p.count p.handlers) ≡ p.count
-  rows_length = length-take-le p.count p.handlers (omega (arith, p.few, p.rows))
+  rows_length = length-take-le p.count p.handlers (omega (arith, p.holds.few, p.holds.rows))
 
   pub at_is : (i : ℕ) → i < p.count → at (contents p) i ≡ get_or p.handlers i blank
   at_is i lt = get_or-take p.count p.handlers i blank lt
 
   pub sound : Sound (contents p)
   sound = record {
-    few = omega (arith, rows_length, p.few);
-    ranges = λ i lt. (let l : i < p.count = omega (arith, lt, rows_length) in rw (at_is i l) (p.ranges i l));
-    short = rw (← p.rounds) p.short;
-    inside = λ a b j. (omega (arith, rows_length, (p.inside a b j).0), omega (arith, rows_length, (p.inside a b j).1));
-    periods = λ a b j. ap (λ (h : Handler). h.period) (at_is a (p.inside a b j).0) ∙ p.periods a b j ∙ ap (λ (h : Handler). h.period) (sym (at_is b (p.inside a b j).1));
-    offsets = λ a b j. ap (λ (h : Handler). h.offset) (at_is a (p.inside a b j).0) ∙ p.offsets a b j ∙ ap (λ (h : Handler). h.offset) (sym (at_is b (p.inside a b j).1));
-    no_circle = p.straight;
+    few = omega (arith, rows_length, p.holds.few);
+    ranges = λ i lt. (let l : i < p.count = omega (arith, lt, rows_length) in rw (at_is i l) (p.holds.ranges i l));
+    short = rw (← p.holds.rounds) p.holds.short;
+    inside = λ a b j. (omega (arith, rows_length, (p.holds.inside a b j).0), omega (arith, rows_length, (p.holds.inside a b j).1));
+    periods = λ a b j. ap (λ (h : Handler). h.period) (at_is a (p.holds.inside a b j).0) ∙ p.holds.periods a b j ∙ ap (λ (h : Handler). h.period) (sym (at_is b (p.holds.inside a b j).1));
+    offsets = λ a b j. ap (λ (h : Handler). h.offset) (at_is a (p.holds.inside a b j).0) ∙ p.holds.offsets a b j ∙ ap (λ (h : Handler). h.offset) (sym (at_is b (p.holds.inside a b j).1));
+    no_circle = p.holds.straight;
   }
 
 pub contents_tell : ContentsTell
@@ -43,14 +43,14 @@ contents_tell p q e =
     let row : (i : ℕ) → i < length p.handlers → get_or p.handlers i blank ≡ get_or q.handlers i blank = λ i lt.
     elim (cases_lt i p.count) [
       | inl l ↦ sym (at_is p i l) ∙ ap (λ l. get_or l i blank) hs ∙ at_is q i (omega (arith, l, n))
-      | inr g ↦ p.blanks i g ∙ sym (q.blanks i (omega (arith, g, n)))
+      | inr g ↦ p.holds.blanks i g ∙ sym (q.holds.blanks i (omega (arith, g, n)))
     ] in
-    let handlers : p.handlers ≡ q.handlers = ext_get_or blank p.handlers q.handlers (p.rows ∙ sym q.rows) row in
+    let handlers : p.handlers ≡ q.handlers = ext_get_or blank p.handlers q.handlers (p.holds.rows ∙ sym q.holds.rows) row in
     let cell : (a b : ℕ) → joined_in p.joins a b ≡ joined_in q.joins a b = λ a b. ap (λ (k : Contents). k.joined a b) e in
     let line : (a : ℕ) → a < length p.joins → get_or p.joins a [] ≡ get_or q.joins a [] = λ a lt.
-    let l : a < 64 = omega (arith, lt, p.tall) in
-    ext_get_or false (get_or p.joins a []) (get_or q.joins a []) (p.wide a l ∙ sym (q.wide a l)) (λ b _. cell a b) in
-    let joins : p.joins ≡ q.joins = ext_get_or [] p.joins q.joins (p.tall ∙ sym q.tall) line in
-    let round : p.round ≡ q.round = p.rounds ∙ ap round_of hs ∙ sym q.rounds in
-    let settling : p.settling ≡ q.settling = p.settles ∙ ap settling_of hs ∙ sym q.settles in
+    let l : a < 64 = omega (arith, lt, p.holds.tall) in
+    ext_get_or false (get_or p.joins a []) (get_or q.joins a []) (p.holds.wide a l ∙ sym (q.holds.wide a l)) (λ b _. cell a b) in
+    let joins : p.joins ≡ q.joins = ext_get_or [] p.joins q.joins (p.holds.tall ∙ sym q.holds.tall) line in
+    let round : p.round ≡ q.round = p.holds.rounds ∙ ap round_of hs ∙ sym q.holds.rounds in
+    let settling : p.settling ≡ q.settling = p.holds.settles ∙ ap settling_of hs ∙ sym q.holds.settles in
     values_one struct (the_propositions the_row.coded) p q cc

@@ -9,8 +9,8 @@ returns-then-a-eq0 c =
     let h = lcm_none c.args.a c.args.b (⊎_elim inl (λ e. inr e.1) c.then-a-eq0.either) in
     record { value = rw (h.0, le-leb 0 c.args.limit (omega arith)); least = h.1 }
 
-pub nonzero-div-product : goal.nonzero-div-product
-nonzero-div-product c =
+pub nonzero_div-product : goal.nonzero_div-product
+nonzero_div-product c =
     let a1 : 1 ≤ c.args.a = omega arith in
     let b1 : 1 ≤ c.args.b = omega arith in
     omega (arith, gcd_some c.args.a c.args.b a1 b1)

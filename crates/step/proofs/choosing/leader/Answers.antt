@@ -20,5 +20,5 @@ loop-i-preserved g c =
           (let found = w.in-Some.ensures in
           subst (FirstBelow p D t u k (i + 1)) (sym w.best-is)
           (first_takes p D law t u k i w.in-Some.next found.1 found.0 c.loop-i.best w.first-of.result c.loop-i.invariant w.first-of.ensures))
-      | in-default w ↦ subst (FirstBelow p D t u k (i + 1)) (sym w.best-is) (first_skips p D law t u k i c.loop-i.best w.in-default.ensures c.loop-i.invariant)
+      | in-default w ↦ subst (FirstBelow p D t u k (i + 1)) (sym w.best-is) (first_skips p D law t u k i c.loop-i.best w.in_default.ensures c.loop-i.invariant)
     ]

@@ -8,8 +8,8 @@ use Rattle.step.proofs.given.start_with.Goals as goal
 pub loop-i-init : goal.loop-i-init
 loop-i-init c = none
 
-pub invariant-of-result : goal.invariant-of-result
-invariant-of-result c =
+pub invariant_of-result : goal.invariant_of-result
+invariant_of-result c =
     let p = contents c.args.plan.now in
     let s = c.args.state in
     let end : c.loop-i.i ≡ count p = omega arith in

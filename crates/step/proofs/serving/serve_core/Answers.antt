@@ -3,8 +3,8 @@ use Rattle.plan.proofs.Facts.{sound}
 use Rattle.step.proofs.Losing.{served_spent, chosen_works, chosen_inside}
 use Rattle.step.proofs.serving.serve_core.Goals as goal
 
-pub overflow-sub-left-in-Some-choice : goal.overflow-sub-left-in-Some-choice
-overflow-sub-left-in-Some-choice g c =
+pub overflow_sub-left-in-Some-choice : goal.overflow_sub-left-in-Some-choice
+overflow_sub-left-in-Some-choice g c =
     chosen_works (contents c.args.plan.now) (g.D.Discipline.first c.args.d.now) (sound c.args.plan.now) c.args.t c.args.state.now.left
     (g.met.D.Discipline.lawful c.args.d.now) c.args.i c.args.left.now c.requires.before c.in-Some.core c.in-Some.ensures.value
     c.in-Some-choice.number c.in-Some-choice.ensures

@@ -7,8 +7,8 @@ use Rattle.plan.proofs.Histories.{accepted_count}
 use Rattle.plan.proofs.Kept.{register_facts, register_contents}
 use Rattle.plan.proofs.plans.Plan.add.Goals as goal
 
-pub invariant-of-self : goal.invariant-of-self
-invariant-of-self c = register_facts c.args.self.now c.args.handler c.requires.takes c.args.longer c.max.result c.requires.round c.max.ensures
+pub invariant_of-self : goal.invariant_of-self
+invariant_of-self c = record { holds = register_facts c.args.self.now c.args.handler c.requires.takes c.args.longer c.max.result c.requires.round c.max.ensures }
 
 pub returns : goal.returns
 returns c =

@@ -3,8 +3,8 @@ use Rattle.plan.proofs.Answered.{may_join_to}
 use Rattle.plan.proofs.Kept.{join_facts, join_contents}
 use Rattle.plan.proofs.plans.Plan.link.Goals as goal
 
-pub invariant-of-self : goal.invariant-of-self
-invariant-of-self c = join_facts c.args.self.now c.args.a c.args.b c.requires
+pub invariant_of-self : goal.invariant_of-self
+invariant_of-self c = record { holds = join_facts c.args.self.now c.args.a c.args.b c.requires }
 
 pub returns : goal.returns
 returns c =

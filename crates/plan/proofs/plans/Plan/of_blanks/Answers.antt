@@ -1,14 +1,16 @@
 use Rattle.std.proofs.Common.{[], replicate, sym, ap, ◌∙◌, subst}
 use Rattle.plan.specs.Rows.{blank}
+use Rattle.plan.specs.Invariant.{IsPlan}
 use Rattle.plan.specs.Joins.{joined_in}
 use Rattle.plan.proofs.Answered.{one_answer_each}
 use Rattle.plan.proofs.Facts.{contents_tell, sound}
-use Rattle.plan.proofs.Kept.{Facts, with_joined, new_facts, new_contents}
+use Rattle.plan.proofs.Kept.{with_joined, new_facts, new_contents}
 use Rattle.plan.proofs.plans.Plan.of_blanks.Goals as goal
 
-pub invariant-of-result : goal.invariant-of-result
-invariant-of-result c =
-    subst (λ hs. Facts 0 1 0 hs c.args.joins) (sym c.requires.0) (subst (λ js. Facts 0 1 0 (replicate 64 blank) js) (sym c.requires.1) new_facts)
+pub invariant_of-result : goal.invariant_of-result
+invariant_of-result c = record {
+  holds = subst (λ hs. IsPlan 0 1 0 hs c.args.joins) (sym c.requires.0) (subst (λ js. IsPlan 0 1 0 (replicate 64 blank) js) (sym c.requires.1) new_facts);
+}
 
 pub returns : goal.returns
 returns c =

@@ -13,5 +13,5 @@ returns c =
     let lt : n - 1 < p.count = omega (arith, some, few, rows_length p) in
     record {
       test = sym (and_from _ _ (le-leb 1 n some) (le-leb n _ few));
-      placed = record { inside = lt; is = refl; row = sym (at_is p (n - 1) lt); range = p.ranges (n - 1) lt };
+      placed = record { inside = lt; is = refl; row = sym (at_is p (n - 1) lt); range = p.holds.ranges (n - 1) lt };
     }

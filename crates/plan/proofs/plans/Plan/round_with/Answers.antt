@@ -17,12 +17,12 @@ returns c =
     let h = c.args.handler in
     let k = contents p in
     let m = round (added k h) in
-    let grown : lcm p.round h.period ≡ m = ap (λ n. lcm n h.period) p.rounds ∙ sym (fold_push (λ m x. lcm m x.period) 1 k.handlers h) in
-    let r : c.ok-or.result ≡ ok_or (within longest_round m) LongRound =
-    c.ok-or.ensures.value ∙ ap (λ o. ok_or o LongRound) (c.longer-round.ensures ∙ ap (within longest_round) grown) in
+    let grown : lcm p.round h.period ≡ m = ap (λ n. lcm n h.period) p.holds.rounds ∙ sym (fold_push (λ m x. lcm m x.period) 1 k.handlers h) in
+    let r : c.ok_or.result ≡ ok_or (within longest_round m) LongRound =
+    c.ok_or.ensures.value ∙ ap (λ o. ok_or o LongRound) (c.longer_round.ensures ∙ ap (within longest_round) grown) in
     let last : Result ℕ Refusal → Type 0 = refuses (longest_round < m) LongRound (accepts m) in
-    register_cases k h c.ok-or.result
+    register_cases k h c.ok_or.result
     (inr (
-      (λ e. omega (arith, e, rows_length p, c.if-self-ge-MOST-HANDLERS.false)),
-      fields_pass h tt c.in-ok-test-fields.field-0 last c.ok-or.result c.in-ok-test-fields.ensures (subst last (sym r) (round_test m)),
+      (λ e. omega (arith, e, rows_length p, c.if-self-ge-MOST_HANDLERS.false)),
+      fields_pass h tt c.in_ok-test_fields.field-0 last c.ok_or.result c.in_ok-test_fields.ensures (subst last (sym r) (round_test m)),
     ))

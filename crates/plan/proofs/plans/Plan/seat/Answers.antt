@@ -3,8 +3,8 @@ use Rattle.plan.proofs.Answered.{may_seat_to}
 use Rattle.plan.proofs.Kept.{seat_facts, seat_contents}
 use Rattle.plan.proofs.plans.Plan.seat.Goals as goal
 
-pub invariant-of-self : goal.invariant-of-self
-invariant-of-self c = seat_facts c.args.self.now c.args.number c.args.core c.requires
+pub invariant_of-self : goal.invariant_of-self
+invariant_of-self c = record { holds = seat_facts c.args.self.now c.args.number c.args.core c.requires }
 
 pub returns : goal.returns
 returns c =

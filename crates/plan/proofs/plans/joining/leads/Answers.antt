@@ -4,7 +4,7 @@ use Rattle.plan.proofs.plans.joining.leads.Goals as goal
 
 pub unreachable-requires : goal.unreachable-requires
 unreachable-requires c =
-    halting _ c.args.from refl c.requires.small c.requires.inside c.gather.new.rule c.gather.new.found _ c.in-Err.halt c.in-Full.-level c.gather.auto.found c.in-Full.is c.in-Err.ensures
+    halting _ c.args.from refl c.requires.small c.requires.inside c.gather.new.rule c.gather.new.found _ c.in-Err.halt c.in-Full._level c.gather.auto.found c.in-Full.is c.in-Err.ensures
 
 pub returns : goal.returns
 returns c =

@@ -5,8 +5,8 @@ use Rattle.model.proofs.Choosing.{choices_tell}
 use Rattle.step.proofs.Spanning.{bounds, follow}
 use Rattle.step.proofs.following.Successors.across.Goals as goal
 
-pub invariant-of-result : goal.invariant-of-result
-invariant-of-result g c = (
+pub invariant_of-result : goal.invariant_of-result
+invariant_of-result g c = (
   λ i. omega arith,
   (
     bounds (contents c.args.plan.now) (g.D.Discipline.first c.args.d.now) (sound c.args.plan.now) c.args.t c.args.state.now

@@ -6,8 +6,8 @@ use Rattle.step.proofs.following.counting.next_row.Goals as goal
 pub loop-i-init : goal.loop-i-init
 loop-i-init c = turned_none c.args.low.now.left c.args.high.now.left c.args.state.left c.args.state.whole
 
-pub invariant-of-result : goal.invariant-of-result
-invariant-of-result c = (length-set c.loop-i.left c.loop-i.i _ ∙ c.loop-i.invariant.long, tt)
+pub invariant_of-result : goal.invariant_of-result
+invariant_of-result c = (length-set c.loop-i.left c.loop-i.i _ ∙ c.loop-i.invariant.long, tt)
 
 pub returns-then-left-i : goal.returns-then-left-i
 returns-then-left-i c =

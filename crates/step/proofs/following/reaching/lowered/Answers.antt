@@ -20,8 +20,8 @@ loop-i-preserved c =
       (λ j l. let ne : j ≢ i = omega arith in get_or-set_other row i j x 0 ne ∙ c.loop-i.invariant.2 j (omega arith)),
     )
 
-pub invariant-of-result : goal.invariant-of-result
-invariant-of-result c = (c.loop-i.invariant.0, tt)
+pub invariant_of-result : goal.invariant_of-result
+invariant_of-result c = (c.loop-i.invariant.0, tt)
 
 pub returns : goal.returns
 returns c i =
