@@ -1,4 +1,6 @@
 // Banks: two disciplines side by side, and for each core the one that answers.
+#![tactic(auto)]
+
 ghost use Rattle.std.specs.Prelude.{◌≡◌, ◌≢◌};
 ghost use Rattle.order.specs.declared.cores.Core.{Core};
 ghost use Rattle.banks.specs.Banks.{side_at, banked};

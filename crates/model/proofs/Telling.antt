@@ -1,6 +1,5 @@
 -- What each verdict tells.
-use Rattle.std.proofs.Common.{◌≡◌, Bool, true, false, Option, sym, refl, ◌∙◌, subst, true≢false}
-use Rattle.model.specs.declared.verdicts.Miss.{Miss}
+use Rattle.std.proofs.Common.{◌≡◌, true, sym, true≢false}
 use Rattle.model.specs.declared.verdicts.Verdict.{Verdict}
 use Rattle.model.specs.declared.verdicts.Verdict.TheVariants.{Kept, Missed, RowsShort}
 use Rattle.model.specs.Telling.{is_kept, miss_of, Promises, Accuses}

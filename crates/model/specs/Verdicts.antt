@@ -4,7 +4,6 @@ use Rattle.std.specs.List.{ContainsAt as Has}
 use Rattle.gather.specs.Levels.{Once}
 use Rattle.order.specs.Laws.{Choice}
 use Rattle.plan.specs.Contents.{Contents}
-use Rattle.model.specs.declared.verdicts.Rows.{Rows}
 use Rattle.model.specs.declared.verdicts.Rows.TheVariants.{Working, Marks}
 use Rattle.model.specs.declared.verdicts.Verdict.{Verdict}
 use Rattle.model.specs.declared.verdicts.Verdict.TheVariants.{Kept, Missed, RowsShort}

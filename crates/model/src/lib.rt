@@ -1,2 +1,4 @@
 // What a plan does: one unit of time, runs, lateness, and the verdict. Nearly all of it are definitions and theorems.
+#![tactic(auto)]
+
 pub mod verdicts;

@@ -10,7 +10,7 @@ use Rattle.plan.specs.contracts.plans.Plan.{struct, the_propositions}
 use Rattle.plan.specs.Rows.{blank, AllInRange, round_of, settling_of}
 use Rattle.plan.specs.Joins.{joined_in}
 use Rattle.plan.proofs.Rounds.{Recurring}
-use Rattle.plan.specs.Contents.{Contents, contents, count, at, Sound, ContentsTell}
+use Rattle.plan.specs.Contents.{Contents, contents, at, Sound, ContentsTell}
 
 -- handlers in range have a period
 pub recurring : (n : ℕ) (hs : List Handler) → n ≤ length hs → AllInRange n hs → Recurring (take n hs)

@@ -1,5 +1,5 @@
 -- One state more has come.
-use Rattle.std.proofs.Common.{◌≡◌, ℕ, suc, ◌<◌, Bool, true, false, cond, List, sym, refl, ap, ◌∙◌, subst₂, inl, inr, arith}
+use Rattle.std.proofs.Common.{◌≡◌, ℕ, suc, ◌<◌, true, false, cond, List, sym, refl, ap, ◌∙◌, subst₂, inl, inr, arith}
 use Rattle.std.proofs.lemmas.Bool.{true≢false}
 use Rattle.step.specs.declared.states.State.{State}
 use Rattle.step.specs.declared.following.Successors.{Successors}

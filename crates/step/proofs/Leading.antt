@@ -4,8 +4,8 @@ use Rattle.std.proofs.lemmas.Bool.{cases_eq}
 use Rattle.order.specs.declared.cores.Core.{Core}
 use Rattle.order.specs.declared.candidates.Candidate.{Candidate}
 use Rattle.order.specs.Laws.{Choice, IsLawfulChoice}
-use Rattle.plan.specs.Contents.{Contents, count, at, StandsFor}
-use Rattle.model.specs.Units.{State, GoesBefore, Running}
+use Rattle.plan.specs.Contents.{Contents, count, StandsFor}
+use Rattle.model.specs.Units.{State, GoesBefore}
 use Rattle.model.proofs.Asking.{before_carries, places_apart}
 use Rattle.step.specs.Choosing.{Chosen, Contends, FirstAt, FirstBelow}
 

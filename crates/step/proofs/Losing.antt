@@ -1,8 +1,7 @@
 -- Core after core: what the loop of `serve` keeps, how it begins and how it ends.
 use Rattle.std.proofs.Common.{◌≡◌, ℕ, suc, ◌+◌, ◌-◌, ◌<◌, ◌≤◌, ◌≢◌, List, length, get_or, take, drop, set, Some, None, sym, refl, ap, ◌∙◌, subst, inl, inr, arith}
-use native.Mathlib.Nat.{suc_inj}
 use Rattle.std.proofs.lemmas.List.{get_or-take, length-take-le, length-set, get_or-set_same, get_or-set_other}
-use Rattle.std.proofs.lemmas.Bool.{cases_eq, cases_lt}
+use Rattle.std.proofs.lemmas.Bool.{cases_eq}
 use Rattle.order.specs.declared.cores.Core.{Core}
 use Rattle.order.specs.Laws.{Choice, IsLawfulChoice}
 use Rattle.plan.specs.Contents.{Contents, Sound, count, at}

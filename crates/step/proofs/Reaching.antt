@@ -1,8 +1,8 @@
 -- Starts, place after place: what the loop of `reach` keeps.
-use Rattle.std.proofs.Common.{◌≡◌, ℕ, suc, ◌+◌, ◌-◌, ◌<◌, ◌≤◌, ◌≢◌, ◌⊎◌, List, length, get_or, set, sym, refl, ◌∙◌, subst, inl, inr, arith}
+use Rattle.std.proofs.Common.{◌≡◌, ℕ, ◌+◌, ◌<◌, ◌≢◌, List, length, get_or, set, sym, refl, ◌∙◌, subst, inl, inr, arith}
 use Rattle.std.proofs.lemmas.List.{length-set, get_or-set_same, get_or-set_other}
 use Rattle.std.proofs.lemmas.Bool.{cases_eq}
-use Rattle.plan.specs.Contents.{Contents, count, at}
+use Rattle.plan.specs.Contents.{Contents, at}
 use Rattle.model.specs.Units.{Starts}
 use Rattle.step.specs.Reaching.{StartsTo, ReachesTo}
 

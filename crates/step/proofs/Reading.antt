@@ -1,7 +1,7 @@
 -- What the calls of a plan tell of its contents, and a state in memory of the state that it holds.
-use Rattle.std.proofs.Common.{◌≡◌, ℕ, suc, ◌+◌, ◌-◌, ◌<◌, ◌≤◌, Bool, true, not, ◌&&◌, ltb, leb, List, length, get_or, drop, Decides, sym, ap, ◌∙◌, subst, inl, inr, arith}
+use Rattle.std.proofs.Common.{◌≡◌, ℕ, ◌+◌, ◌-◌, ◌<◌, ◌≤◌, Bool, true, not, ◌&&◌, ltb, leb, List, length, get_or, drop, Decides, sym, ap, ◌∙◌, subst, inl, inr, arith}
 use Prim.Native.Nat.{◌∣◌}
-use Rattle.std.proofs.lemmas.Bool.{leb-true, le-leb, ltb-true, lt-ltb, and_parts, and_from, not_true, not_from_false, cases_Bool, true≢false}
+use Rattle.std.proofs.lemmas.Bool.{leb-true, le-leb, ltb-true, lt-ltb, and_parts, and_from, not-true, not_from_false, cases_Bool, true≢false}
 use Rattle.std.proofs.lemmas.List.{get_or-take, length-take-le, get_or-drop, length-drop, ext_get_or}
 use Rattle.terms.specs.declared.handlers.Handler.{Handler}
 use Rattle.plan.specs.Contents.{Contents, Sound, count, at, known, Known, joins}
@@ -54,7 +54,7 @@ module _ (p : Contents) (s : State) (i : ℕ) (inside : i < count p) where
   ready_told w told h = (
     λ b. record {
       working = subst (λ x. 0 < x) (sym (times_left p s i inside)) h;
-      waits = λ a j. let no-time : ¬ (0 < left (times p s) a) = λ l. true≢false (sym (told.1 (a, (j, l))) ∙ not_true w b) in omega arith;
+      waits = λ a j. let no-time : ¬ (0 < left (times p s) a) = λ l. true≢false (sym (told.1 (a, (j, l))) ∙ not-true w b) in omega arith;
     },
     λ r. elim (cases_Bool w) [
       | inl e ↦ absurd (let x = told.0 e in let z : left (times p s) x.0 ≡ 0 = r.waits x.0 x.1.0 in omega (arith, x.1.1))

@@ -1,5 +1,5 @@
 -- The states that follow a state, one after another.
-use Rattle.std.specs.Prelude.{◌≡◌, ℕ, suc, false, cond, ◌⊎◌, ◌↔◌, List, take, drop, Some, None, Option}
+use Rattle.std.specs.Prelude.{◌≡◌, ℕ, suc, false, cond, ◌⊎◌, List, take, drop, Some, None, Option}
 use Rattle.order.specs.Laws.{Choice}
 use Rattle.plan.specs.Contents.{Contents, count}
 use Rattle.model.specs.Units.{Step}

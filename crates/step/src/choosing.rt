@@ -69,7 +69,7 @@ fn first_of<D: Discipline>(
     next: Candidate,
     t: u64,
 ) -> Candidate
-    ensures { MatchOption best (result ≡ next) (λ x. result ≡ (if first d.now core x next t then x else next)) }
+    ensures { MatchOption best (result ≡ next) (λ x. result ≡ (if D.first d.now core x next t then x else next)) }
 {
     match best {
         None => next,
@@ -85,7 +85,7 @@ fn first_of<D: Discipline>(
 
 // The ready handler of the core that goes before all other ready ones there.
 fn leader<D: Discipline>(plan: &Plan, d: &D, core: Core, t: u64, state: &State) -> Option<Candidate>
-    ensures { FirstBelow (contents plan.now) (first d.now) t (times (contents plan.now) state.now) core (count (contents plan.now)) result }
+    ensures { FirstBelow (contents plan.now) (D.first d.now) t (times (contents plan.now) state.now) core (count (contents plan.now)) result }
 {
     let mut best = None;
     for i in 0..plan.count() {
@@ -98,7 +98,7 @@ fn leader<D: Discipline>(plan: &Plan, d: &D, core: Core, t: u64, state: &State) 
 
 // The number of the leader.
 fn runner<D: Discipline>(plan: &Plan, d: &D, core: Core, t: u64, state: &State) -> Option<u8>
-    ensures { Chosen (contents plan.now) (first d.now) t (times (contents plan.now) state.now) core result }
+    ensures { Chosen (contents plan.now) (D.first d.now) t (times (contents plan.now) state.now) core result }
 {
     match leader(plan, d, core, t, state) {
         None => None,
@@ -108,7 +108,7 @@ fn runner<D: Discipline>(plan: &Plan, d: &D, core: Core, t: u64, state: &State) 
 
 /// The number of the handler that runs on the core at `t`; `None` where no handler there is ready, and the core idles.
 pub fn choice<D: Discipline>(plan: &Plan, d: &D, core: Core, t: u64, state: &State) -> Option<u8>
-    ensures { Chosen (contents plan.now) (first d.now) t (times (contents plan.now) state.now) core result }
+    ensures { Chosen (contents plan.now) (D.first d.now) t (times (contents plan.now) state.now) core result }
 {
     runner(plan, d, core, t, state)
 }

@@ -90,8 +90,8 @@ pub fn unit_with<D: Discipline>(
     state: State,
     list: &[u16],
 ) -> Result<Taken, Misfit>
-    ensures steps { IfOk result (λ x. Step (contents plan.now) (first d.now) t (times (contents plan.now) state) (times (contents plan.now) x.state)) }
-    ensures given { MatchResult result (λ x. GivenThenServed (contents plan.now) (first d.now) t list.now state x.state x.used) (StopsAt (contents plan.now) t list.now state.left) }
+    ensures steps { IfOk result (λ x. Step (contents plan.now) (D.first d.now) t (times (contents plan.now) state) (times (contents plan.now) x.state)) }
+    ensures given { MatchResult result (λ x. GivenThenServed (contents plan.now) (D.first d.now) t list.now state x.state x.used) (StopsAt (contents plan.now) t list.now state.left) }
     ensures few { IfOk result (λ x. x.used ≤ length list.now) }
 {
     let taken = start_with(plan, t, state, list)?;

@@ -1,4 +1,6 @@
 // One unit of time on a state: who starts, who is ready, who runs on each core, and every state that can follow.
+#![tactic(auto)]
+
 pub mod choosing;
 pub mod following;
 pub mod given;

@@ -14,8 +14,8 @@ use plan::plans::Plan;
 // Serves the core of number `i + 1`, after those before it. All cores choose by the state as it was when the unit began.
 fn serve_core<D: Discipline>(plan: &Plan, d: &D, i: u8, t: u64, state: &State, left: &mut [u16; 64])
     requires inside { i < 8 }
-    requires before { ServedTo (contents plan.now) (first d.now) t state.now.left i left.old }
-    ensures { ServedTo (contents plan.now) (first d.now) t state.now.left (i + 1) left.new }
+    requires before { ServedTo (contents plan.now) (D.first d.now) t state.now.left i left.old }
+    ensures { ServedTo (contents plan.now) (D.first d.now) t state.now.left (i + 1) left.new }
 {
     let Some(core) = Core::new(i + 1) else {
         unreachable()
@@ -28,7 +28,7 @@ fn serve_core<D: Discipline>(plan: &Plan, d: &D, i: u8, t: u64, state: &State, l
 
 /// The state after the unit that begins at `t`, once the starts of `t` have been made.
 pub fn serve<D: Discipline>(plan: &Plan, d: &D, t: u64, state: State) -> State
-    ensures served { Served (contents plan.now) (first d.now) t (times (contents plan.now) state) (times (contents plan.now) result) }
+    ensures served { Served (contents plan.now) (D.first d.now) t (times (contents plan.now) state) (times (contents plan.now) result) }
     ensures rest { RestSame (contents plan.now) state result }
 {
     let mut left = state.left;

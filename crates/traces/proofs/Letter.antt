@@ -1,8 +1,8 @@
 -- The two readings of finished differ before anything happened.
-use Rattle.std.proofs.Common.{◌≡◌, ℕ, ◌+◌, ◌-◌, ◌*◌, ◌<◌, [], take, drop, sym, refl, ap, ◌∙◌, arith}
+use Rattle.std.proofs.Common.{◌≡◌, ℕ, ◌+◌, ◌-◌, ◌*◌, [], take, ap, ◌∙◌, arith}
 use Rattle.plan.specs.Contents.{Contents, at}
 use Rattle.std.proofs.lemmas.List.{take_all, drop_all}
-use Rattle.traces.specs.Systems.{SystemState, executed, nth_period}
+use Rattle.traces.specs.Systems.{executed, nth_period}
 use Rattle.traces.specs.Agreement.{LetterDiffers}
 
 nothing_yet : (p : Contents) (τ n : ℕ) → executed p (nth_period p [] τ n) τ ≡ 0

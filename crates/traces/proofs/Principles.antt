@@ -35,8 +35,8 @@ coded_lawful codes = record { reverses = λ k. (law k).reverses k; carries = λ 
 -- ---- and says what the priorities say
 
 -- the test that numbering makes, as a relation
-by_rank : (x y a b : ℕ) → by_rank (smaller x y) (suc a) (suc b) ≡ true ↔ LessOrFirst x a y b
-by_rank x y a b = (λ e. go e (cases_order x y), back)
+tells_rank : (x y a b : ℕ) → by_rank (smaller x y) (suc a) (suc b) ≡ true ↔ LessOrFirst x a y b
+tells_rank x y a b = (λ e. go e (cases_order x y), back)
   where
     go : by_rank (smaller x y) (suc a) (suc b) ≡ true → (x ≡ y) ⊎ ((x < y) ⊎ (y < x)) → LessOrFirst x a y b
     go e (inl h) = inr (h, grind (arith, nat_tests))
@@ -66,7 +66,7 @@ module _ (p : Contents) (t a b : ℕ) (c : Core) (x y : Candidate) (sx : StandsF
   iy = of_place y p b sy
 
   asked : (u v m n : ℕ) → u ≡ m → v ≡ n → by_rank (smaller u v) x.number y.number ≡ true ↔ LessOrFirst m a n b
-  asked u v m n e f = rw (sx.number, sy.number, e, f) (by_rank m n a b)
+  asked u v m n e f = rw (sx.number, sy.number, e, f) (tells_rank m n a b)
 
   by_code : (code : Code) → numbered (ranks_by code) c x y t ≡ true ↔ Higher code p t a b
   by_code FixedPriority =

@@ -1,3 +1,5 @@
 // Tests over several layers.
+#![tactic(auto)]
+
 #[cfg(test)]
 mod units;

@@ -89,7 +89,7 @@ impl Successors {
         extent: Extent,
     ) -> Successors
         requires { ReachesTo (contents plan.now) t state.now.left (count (contents plan.now)) extent.low.left extent.high.left }
-        ensures all { SuccessorsOf (contents plan.now) (first d.now) t state.now result }
+        ensures all { SuccessorsOf (contents plan.now) (D.first d.now) t state.now result }
         ensures tell { ChoicesTell }
     {
         let low = serve(plan, d, t, extent.low);
@@ -104,7 +104,7 @@ impl Successors {
 
     /// The states that can follow a state at `t`, one for each combination of times chosen by the handlers that start then.
     pub fn of<D: Discipline>(plan: &Plan, d: &D, t: u64, state: State) -> Successors
-        ensures all { SuccessorsOf (contents plan.now) (first d.now) t state result }
+        ensures all { SuccessorsOf (contents plan.now) (D.first d.now) t state result }
         ensures tell { ChoicesTell }
     {
         let extent = reach(plan, t, state);

@@ -4,7 +4,7 @@ use Rattle.step.specs.Memory.{times}
 use Rattle.step.specs.Choosing.{FirstBelow}
 use Rattle.step.proofs.Leading.{first_skips, first_takes}
 use Rattle.step.proofs.choosing.leader.Goals as goal
-use Rattle.step.proofs.choosing.leader.Goals.{in-Some, in-default}
+use Rattle.step.proofs.choosing.leader.Goals.{in-Some, in_default}
 
 pub loop-i-preserved : goal.loop-i-preserved
 loop-i-preserved g c =
@@ -19,6 +19,6 @@ loop-i-preserved g c =
       | in-Some w ↦
           (let found = w.in-Some.ensures in
           subst (FirstBelow p D t u k (i + 1)) (sym w.best-is)
-          (first_takes p D law t u k i w.in-Some.next found.1 found.0 c.loop-i.best w.first-of.result c.loop-i.invariant w.first-of.ensures))
-      | in-default w ↦ subst (FirstBelow p D t u k (i + 1)) (sym w.best-is) (first_skips p D law t u k i c.loop-i.best w.in_default.ensures c.loop-i.invariant)
+          (first_takes p D law t u k i w.in-Some.next found.1 found.0 c.loop-i.best w.first_of.result c.loop-i.invariant w.first_of.ensures))
+      | in_default w ↦ subst (FirstBelow p D t u k (i + 1)) (sym w.best-is) (first_skips p D law t u k i c.loop-i.best w.in_default.ensures c.loop-i.invariant)
     ]

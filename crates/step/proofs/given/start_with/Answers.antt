@@ -13,7 +13,7 @@ invariant_of-result c =
     let p = contents c.args.plan.now in
     let s = c.args.state in
     let end : c.loop-i.i ≡ count p = omega arith in
-    (given_long p (sound c.args.plan.now) c.args.t c.args.list.now s.left c.loop-i.left c.loop-i.used s.whole c.loop-i.i end c.loop-i.invariant, tt)
+    record { whole = given_long p (sound c.args.plan.now) c.args.t c.args.list.now s.left c.loop-i.left c.loop-i.used s.whole c.loop-i.i end c.loop-i.invariant }
 
 pub returns : goal.returns
 returns c =

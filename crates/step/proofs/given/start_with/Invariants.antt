@@ -1,5 +1,4 @@
 use Rattle.plan.specs.Contents.{contents}
-use Rattle.std.proofs.Common.{◌≤◌}
 use Rattle.step.specs.Given.{Given}
 use Rattle.step.proofs.given.start_with.Given as goal
 

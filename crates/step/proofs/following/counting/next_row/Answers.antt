@@ -7,7 +7,7 @@ pub loop-i-init : goal.loop-i-init
 loop-i-init c = turned_none c.args.low.now.left c.args.high.now.left c.args.state.left c.args.state.whole
 
 pub invariant_of-result : goal.invariant_of-result
-invariant_of-result c = (length-set c.loop-i.left c.loop-i.i _ ∙ c.loop-i.invariant.long, tt)
+invariant_of-result c = record { whole = length-set c.loop-i.left c.loop-i.i _ ∙ c.loop-i.invariant.long }
 
 pub returns-then-left-i : goal.returns-then-left-i
 returns-then-left-i c =

@@ -1,4 +1,4 @@
-use Rattle.std.proofs.Common.{◌≡◌, ℕ, ◌-◌, ◌<◌, ◌≤◌, ◌≢◌, length, get_or, set, sym, ◌∙◌, subst, inl, inr, arith}
+use Rattle.std.proofs.Common.{◌≡◌, ℕ, ◌-◌, ◌≢◌, length, get_or, set, sym, ◌∙◌, subst, inl, inr, arith}
 use Rattle.std.proofs.lemmas.List.{length-set, get_or-set_same, get_or-set_other, get_or_past}
 use Rattle.std.proofs.lemmas.Bool.{cases_eq, cases_lt}
 use Rattle.step.proofs.following.reaching.lowered.Goals as goal
@@ -7,7 +7,7 @@ pub loop-i-preserved : goal.loop-i-preserved
 loop-i-preserved c =
     let i = c.loop-i.i in
     let row = c.loop-i.left in
-    let x = c.saturating-sub.result in
+    let x = c.saturating_sub.result in
     let long : length row ≡ 64 = c.loop-i.invariant.0 in
     let goal : ℕ → ℕ = λ j. get_or c.args.high.left j 0 - (get_or c.args.low.now.left j 0 - get_or c.args.served.now.left j 0) in
     let here : x ≡ goal i = omega (arith, c.loop-i.invariant.2 i (omega arith)) in (
@@ -21,7 +21,7 @@ loop-i-preserved c =
     )
 
 pub invariant_of-result : goal.invariant_of-result
-invariant_of-result c = (c.loop-i.invariant.0, tt)
+invariant_of-result c = record { whole = c.loop-i.invariant.0 }
 
 pub returns : goal.returns
 returns c i =

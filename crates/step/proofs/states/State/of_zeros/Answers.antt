@@ -14,9 +14,9 @@ returns c = record {
   begins = λ p ok. ap (take (count p)) c.requires ∙ take-replicate (count p) 64 0 ok.few;
   goes_on = beginnings_go_on;
   one_runs = one_runs;
-  someone-ready = someone_is_ready;
+  someone_ready = someone_is_ready;
   repeats = units_repeat;
   article = article_agrees;
-  article-codes = article_agrees_by_codes;
+  article_codes = article_agrees_by_codes;
   letter = letter_differs;
 }
