@@ -1,6 +1,5 @@
 -- How the words of a slice are taken apart.
-use Rattle.std.proofs.Common.{◌≡◌, ℕ, ◌-◌, ◌<◌, ◌≤◌, List, [], ◌∷◌, length, get_or, take, drop, sym, refl, ap, ◌∙◌, subst, arith, Bor}
-use lib.ListN.{length-map}
+use Rattle.std.proofs.Common.{◌≡◌, ℕ, ◌-◌, ◌≤◌, List, [], ◌∷◌, length, get_or, take, drop, sym, ap, ◌∙◌, subst, arith, Bor}
 use Rattle.std.proofs.lemmas.List.{take_rest}
 use Rattle.std.specs.Str.Parse.{digits_value, without_leading_plus}
 use Rattle.notation.specs.declared.Key.{Key}
@@ -22,22 +21,12 @@ split_two [] h = absurd (omega arith)
 split_two (a ∷ []) h = absurd (omega arith)
 split_two (a ∷ (b ∷ ws)) h = ap (λ l. a.now ∷ (b.now ∷ texts l)) (sym (take_rest (a ∷ (b ∷ ws)) 2))
 
-pub too_few : (ws : List (Bor (List ℕ))) (key : Key) (n : ℕ) (rest : List (List ℕ)) → length ws < 2 → Field (texts ws) key n rest → ⊥
-too_few ws key n rest h (word, is, w) = omega (arith, ap length is, length-map ws (λ w. w.now))
-
 -- a key has one number, and one rest
 pub field_unique : (ws : List (List ℕ)) (key : Key) (m n : ℕ) (rest more : List (List ℕ)) → Field ws key m rest → Field ws key n more → (m ≡ n) × (rest ≡ more)
 field_unique ws key m n rest more (x, p, v) (y, q, w) =
     let same : x ≡ y = cc in
     let left : rest ≡ more = cc in
     (v.is ∙ ap (λ z. digits_value 10 (without_leading_plus z)) same ∙ sym w.is, left)
-
-pub texts_none : (ws : List (Bor (List ℕ))) → length ws ≡ 0 → texts ws ≡ []
-texts_none [] h = refl
-texts_none (w ∷ ws) h = absurd (omega arith)
-
-pub texts_some : (ws : List (Bor (List ℕ))) → (length ws ≡ 0 → ⊥) → texts ws ≡ [] → ⊥
-texts_some ws h e = h (omega (arith, ap length e, length-map ws (λ w. w.now)))
 
 -- where a field is missing, nothing begins with it
 pub missing : (ws : List (List ℕ)) (key : Key) (Such : List (List ℕ) → Type 0) →

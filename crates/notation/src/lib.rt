@@ -1,4 +1,5 @@
 // The text form of a plan, line by line.
+
 #![tactic(auto)]
 
 ghost use Rattle.std.specs.Prelude.{◌≡◌, ℕ, List, [], MatchResult, ◌≢◌};

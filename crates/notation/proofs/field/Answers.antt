@@ -1,10 +1,7 @@
-use Rattle.std.proofs.Common.{◌≡◌, arith, rules, ltb-false, ltb-true}
+use Rattle.std.proofs.Common.{◌≡◌, arith, rules, ltb-false}
 use Rattle.notation.specs.Lines.{key_text}
-use Rattle.notation.proofs.Fields.{word, split_two, too_few}
+use Rattle.notation.proofs.Fields.{word, split_two}
 use Rattle.notation.proofs.field.Goals as goal
-
-pub returns-in-default : goal.returns-in-default
-returns-in-default c n rest = too_few c.args.words.now c.args.key n rest (omega (arith, ltb-true))
 
 pub returns-in-Ok : goal.returns-in-Ok
 returns-in-Ok c =
