@@ -1,5 +1,8 @@
 // Reads a plan and the codes of its cores, and prints the plan, in which order the handlers of each core go and when
 // that changes, and, where the arguments ask for one, a run of the plan.
+#![tactic(auto)]
+
+use anyhow::bail;
 use banks::codes::{Code, code_bank};
 use notation::{CoreLine, HandlerLine, Line, Problem, parse_words};
 use order::candidates::Candidate;
@@ -255,8 +258,7 @@ fn read(heap: Global, text: &str) -> anyhow::Result<Listing> {
     for (at, line) in text.lines().enumerate() {
         if let Err(trouble) = list.add_line(heap, line) {
             let number = at.saturating_add(1);
-            let message = format!(in heap; "line {number}: {trouble}")?;
-            return Err(message.into());
+            bail!("line {number}: {trouble}");
         }
     }
     Ok(list)
@@ -318,10 +320,7 @@ fn show_run<D: Discipline>(
                 state = taken.state;
                 rest = unused;
             }
-            Err(misfit) => {
-                let message = format!(in rt.alloc(); "at {t}: {}", Unfit(misfit))?;
-                return Err(message.into());
-            }
+            Err(misfit) => bail!("at {t}: {}", Unfit(misfit)),
         }
     }
     show_state(rt, plan, units as u64, &state)?;

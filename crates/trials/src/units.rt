@@ -6,7 +6,7 @@ use plan::plans::Plan;
 use std::alloc::{AllocError, Global};
 use std::test::Fail;
 use step::choosing::{choice, ready};
-use step::following::{Successors, SuccessorsIterator};
+use step::following::Successors;
 use step::given::{Misfit, unit_with};
 use step::lateness::late;
 use step::starting::starts;
