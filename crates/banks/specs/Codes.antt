@@ -5,7 +5,7 @@ use Rattle.banks.specs.declared.Side.{Side}
 use Rattle.banks.specs.declared.Side.TheVariants.{Left, Right}
 use Rattle.banks.specs.declared.codes.Code.{Code}
 use Rattle.banks.specs.declared.codes.Code.TheVariants.{FixedPriority, RateMonotonic, EarliestDeadline}
-use Rattle.banks.specs.Banks.{side_at, banked}
+use Rattle.banks.specs.Banks.{side_at}
 use Rattle.order.specs.Laws.{Ranking, Choice}
 use Rattle.order.specs.Meanings.{by_number, by_period, by_distance, numbered}
 
@@ -29,17 +29,12 @@ code_at codes k = slice_index_or codes (k.number - 1) FixedPriority
 abbrev pub coded : List Code → Choice
 coded codes k = numbered (ranks_by (code_at codes k)) k
 
--- what two nested banks mean: fixed priority on the left, and on the right rate-monotonic or earliest deadline first
-abbrev pub piled : List Side → List Side → Choice
-piled outer inner =
-    banked (side_at outer) (numbered by_number) (banked (side_at inner) (numbered by_period) (numbered by_distance))
-
--- the code that their two sides for a core stand for
+-- the code that the sides for a core stand for, in a bank of fixed priority and a bank of the other two
 abbrev pub code_on : Side → Side → Code
 code_on Left inner = FixedPriority
 code_on Right Left = RateMonotonic
 code_on Right Right = EarliestDeadline
 
--- the code of a core, by the two tables of the pile
+-- the code of a core, by the tables of these two banks
 abbrev pub code_in : List Side → List Side → Core → Code
 code_in outer inner k = code_on (side_at outer k) (side_at inner k)

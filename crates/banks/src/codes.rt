@@ -3,7 +3,7 @@ ghost use Rattle.std.specs.Prelude.{◌≡◌, ℕ, ◌-◌, ◌<◌, MatchOptio
 ghost use Rattle.banks.specs.declared.codes.Code.{Code};
 ghost use Rattle.order.specs.declared.cores.Core.{Core};
 ghost use Rattle.order.specs.declared.candidates.Candidate.{Candidate};
-ghost use Rattle.banks.specs.Codes.{number_of, code_in, piled, coded};
+ghost use Rattle.banks.specs.Codes.{number_of, code_in, coded};
 
 use crate::{Bank, Side, Table};
 use order::candidates::Candidate;
@@ -87,7 +87,7 @@ fn fixed_everywhere() -> CodeBank {
 
 /// A bank that lets each core choose by the criterion of its code, and by number between equals.
 pub fn code_bank(codes: &[Code; 8]) -> CodeBank
-    ensures { (k : Core) (a b : Candidate) (t : ℕ) → piled result.table.sides result.right.table.sides k a b t ≡ coded codes.now k a b t }
+    ensures { (k : Core) (a b : Candidate) (t : ℕ) → ⟦<CodeBank as Discipline>⟧.first result k a b t ≡ coded codes.now k a b t }
 {
     let mut bank = fixed_everywhere();
     for number in 1..=8 {
