@@ -74,7 +74,7 @@ module _ (p : Contents) (D : Choice) where
               (moved i d (round p) (run (mark p (k + j))) s a
               (subst (λ (x : ℕ). Leads p D (round p) (mark p x) (run (mark p (k + j))) s) q leads)))
 
-      -- each state at any mark time is among the marks up to k - 1
+      -- a state at any mark time was a mark before k
       all_marked : (j : ℕ) (s : State) → StateAt p D (mark p j) s → Marked p D (k - 1) s
       all_marked j s a = go (dec_lt j k)
         where

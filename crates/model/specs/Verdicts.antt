@@ -25,7 +25,7 @@ pub record Number (P : State → Type 0) (n : ℕ) : Type 0 where
   pub all : (s : State) → P s → Has states s
   pub many : length states ≡ n
 
--- k is at least 1, and every state at the mark time k is among the marks up to k - 1
+-- k is 1 or more, and the mark time k brings no new state: each was a mark before
 abbrev pub Closes : Contents → Choice → ℕ → Type 0
 Closes p D k = (1 ≤ k) × ((s : State) → StateAt p D (mark p k) s → Marked p D (k - 1) s)
 

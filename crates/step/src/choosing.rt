@@ -83,7 +83,7 @@ fn first_of<D: Discipline>(
     }
 }
 
-// The ready handler of the core that goes before all other ready ones there.
+// Of the handlers that are ready on the core, the one that goes before the others.
 fn leader<D: Discipline>(plan: &Plan, d: &D, core: Core, t: u64, state: &State) -> Option<Candidate>
     ensures { FirstBelow (contents plan.now) (D.first d.now) t (times (contents plan.now) state.now) core (count (contents plan.now)) result }
 {
