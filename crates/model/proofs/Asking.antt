@@ -5,8 +5,8 @@ use native.Mathlib.Nat.{suc_inj}
 use denote.Struct.Record.{values_one}
 use Rattle.order.specs.declared.cores.Core.{Core}
 use Rattle.order.specs.declared.candidates.Candidate.{Candidate}
-use Rattle.order.specs.contracts.cores.Core as core-type
-use Rattle.order.specs.contracts.candidates.Candidate as candidate-type
+use Rattle.order.specs.contracts.cores.Core as core_type
+use Rattle.order.specs.contracts.candidates.Candidate as candidate_type
 use Rattle.order.specs.Laws.{Choice, IsLawfulChoice, Apart}
 use Rattle.plan.specs.Contents.{Contents, Sound, count, at, StandsFor}
 use Rattle.model.specs.Units.{GoesBefore}
@@ -46,14 +46,14 @@ candidate_of p ok i h =
     )
 
 pub core_one : (c d : Core) → c.number ≡ d.number → c ≡ d
-core_one c d e = values_one core-type.struct core-type.the_propositions c d cc
+core_one c d e = values_one core_type.struct core_type.the_propositions c d cc
 
 pub stands_one : (p : Contents) (n : ℕ) (x y : Candidate) → StandsFor x p n → StandsFor y p n → x ≡ y
 stands_one p n x y a b =
     let e : x.number ≡ y.number = a.number ∙ sym b.number in
     let f : x.period ≡ y.period = a.period ∙ sym b.period in
     let g : x.offset ≡ y.offset = a.offset ∙ sym b.offset in
-    values_one candidate-type.struct candidate-type.the_propositions x y cc
+    values_one candidate_type.struct candidate_type.the_propositions x y cc
 
 -- ---- the answers
 

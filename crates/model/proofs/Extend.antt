@@ -116,11 +116,11 @@ module _ (p : Contents) (D : Choice) (ok : Sound p) where
           (subst₂ (Step p D t) (sym (early run t s t (omega arith))) (sym (past run t s (suc t) 0 (omega arith))) step)
       go k (no h) (no e) =
           let j : ℕ = k - suc t in
-          let at-k : k ≡ suc t + j = omega arith in
+          let at_k : k ≡ suc t + j = omega arith in
           let here : Step p D k (onward (suc t) s j) (onward (suc t) s (suc j)) =
-          subst (λ (x : ℕ). Step p D x (onward (suc t) s j) (next (suc t + j) (onward (suc t) s j))) (sym at-k)
+          subst (λ (x : ℕ). Step p D x (onward (suc t) s j) (next (suc t + j) (onward (suc t) s j))) (sym at_k)
           (next_ok (suc t + j) (onward (suc t) s j)) in
-          subst₂ (Step p D k) (sym (past run t s k j at-k)) (sym (past run t s (suc k) (suc j) (omega arith))) here
+          subst₂ (Step p D k) (sym (past run t s k j at_k)) (sym (past run t s (suc k) (suc j) (omega arith))) here
 
   -- there is a run
   pub some_run : (run : ℕ → State) × Run p D run

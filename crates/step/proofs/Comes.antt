@@ -41,7 +41,7 @@ module _ (q : Successors) (going : q.ended ≡ false) where
 
     pub came_next : r.low.left ≡ q.low.left → r.high.left ≡ q.high.left → r.ended ≡ false
         → NextRow q.low.left q.high.left q.at.left r.at.left → Came q q.at.left r
-    came_next low-is high_is more next =
+    came_next low_is high_is more next =
         let low = q.low.left in
         let high = q.high.left in
         let x = q.at.left in
@@ -51,8 +51,8 @@ module _ (q : Successors) (going : q.ended ≡ false) where
           still = λ z c.
               elim c.later [
                 | inl e ↦ inl e
-                | inr l ↦ inr (record { going = more; between = subst₂ (λ a b. Between a b z) (sym low-is) (sym high_is) c.between; later = next_covers low high x y next z c.between l })
+                | inr l ↦ inr (record { going = more; between = subst₂ (λ a b. Between a b z) (sym low_is) (sym high_is) c.between; later = next_covers low high x y next z c.between l })
               ];
-          only = λ z c. record { going = going; between = subst₂ (λ a b. Between a b z) low-is high_is c.between; later = inr (next_after low high x y next z c.later) };
+          only = λ z c. record { going = going; between = subst₂ (λ a b. Between a b z) low_is high_is c.between; later = inr (next_after low high x y next z c.later) };
           once = λ c. later_not_self x (next_after low high x y next x c.later);
         }

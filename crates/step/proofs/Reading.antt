@@ -54,7 +54,7 @@ module _ (p : Contents) (s : State) (i : ℕ) (inside : i < count p) where
   ready_told w told h = (
     λ b. record {
       working = subst (λ x. 0 < x) (sym (times_left p s i inside)) h;
-      waits = λ a j. let no-time : ¬ (0 < left (times p s) a) = λ l. true≢false (sym (told.1 (a, (j, l))) ∙ not-true w b) in omega arith;
+      waits = λ a j. let no_time : ¬ (0 < left (times p s) a) = λ l. true≢false (sym (told.1 (a, (j, l))) ∙ not-true w b) in omega arith;
     },
     λ r. elim (cases_Bool w) [
       | inl e ↦ absurd (let x = told.0 e in let z : left (times p s) x.0 ≡ 0 = r.waits x.0 x.1.0 in omega (arith, x.1.1))

@@ -20,7 +20,7 @@ use Rattle.step.proofs.Reading.{drop_same}
 -- low and high hold the shortest and the longest times; least is low after the unit, and most is high less what low lost
 module _ (p : Contents) (D : Choice) (ok : Sound p) (t : ℕ) (was low high least most : List ℕ) (whole : length was ≡ 64)
     (reach : ReachesTo p t was (count p) low high) (served : Served p D t (take (count p) low) (take (count p) least))
-    (rest : drop (count p) least ≡ drop (count p) low) (long-least : length least ≡ 64)
+    (rest : drop (count p) least ≡ drop (count p) low) (long_least : length least ≡ 64)
     (lowered : (i : ℕ) → get_or most i 0 ≡ get_or high i 0 - (get_or low i 0 - get_or least i 0)) where
   few : count p ≤ 64
   few = ok.few
@@ -207,7 +207,7 @@ module _ (p : Contents) (D : Choice) (ok : Sound p) (t : ℕ) (s low high least 
   -- all rows between the two are still to come, and these are the steps
   pub follow : (q : Successors) → q.ended ≡ false → q.at.left ≡ least.left → q.low.left ≡ least.left → q.high.left ≡ most.left
       → SuccessorsOf p D t s q
-  follow q going at_is low-is high_is = record {
+  follow q going at_is low_is high_is = record {
     each = λ v (u, started, stepped).
         let x = row p D ok t s.left low.left high.left least.left most.left s.whole reach served rest least.whole lowered u v started stepped in
         let b = row_between p D ok t s.left low.left high.left least.left most.left s.whole reach served rest least.whole lowered u v started stepped in
@@ -217,11 +217,11 @@ module _ (p : Contents) (D : Choice) (ok : Sound p) (t : ℕ) (s low high least 
   }
     where
       between : (x : List ℕ) → Coming q x → Between least.left most.left x
-      between x c = subst₂ (λ a b. Between a b x) low-is high_is c.between
+      between x c = subst₂ (λ a b. Between a b x) low_is high_is c.between
 
       all : (x : List ℕ) → Between least.left most.left x → Coming q x
       all x b = record {
         going = going;
-        between = subst₂ (λ a b. Between a b x) (sym low-is) (sym high_is) b;
+        between = subst₂ (λ a b. Between a b x) (sym low_is) (sym high_is) b;
         later = subst (λ a. (x ≡ a) ⊎ Later a x) (sym at_is) (least_first least.left most.left x least.whole b);
       }

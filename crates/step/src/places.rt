@@ -6,7 +6,7 @@ ghost use Rattle.plan.specs.Rows.{IsInRange};
 use plan::plans::Plan;
 use terms::handlers::Handler;
 
-pub fn handler_at(plan: &Plan, i: u8) -> Handler
+pub(crate) fn handler_at(plan: &Plan, i: u8) -> Handler
     requires { i < count (contents plan.now) }
     ensures value { result ≡ at (contents plan.now) i }
     ensures range { IsInRange result }
