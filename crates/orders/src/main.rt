@@ -1,0 +1,135 @@
+// Reads a plan and the codes of its cores, and prints the plan, in which order the handlers of each core go and when
+// that changes.
+#![tactic(auto)]
+
+use banks::codes::code_bank;
+use listing::{Listing, read};
+use order::candidates::Candidate;
+use order::cores::Core;
+use order::disciplines::Discipline;
+use plan::plans::Plan;
+use ranking::{arrange, next_change};
+use std::alloc::{AllocError, Global};
+use std::{fmt, io};
+
+// What the report looked at.
+#[derive(Drop)]
+struct Account {
+    cores: u64,
+    times: u64,
+    changes: u64,
+}
+
+impl fmt::Display for Account {
+    fn fmt<W: fmt::Write>(&self, f: &mut fmt::Formatter<W>) -> fmt::Result {
+        let (cores, times, changes) = (self.cores, self.times, self.changes);
+        write!(f, "cores {cores}, times {times}, changes {changes}")
+    }
+}
+
+fn show(rt: &HostRuntime, core: Core, t: u64, row: &[Candidate]) -> io::Result<()> {
+    let number = core.number();
+    print!(rt; "core {number} at {t}:")?;
+    for candidate in row {
+        let handler = candidate.number();
+        print!(rt; " {handler}")?;
+    }
+    println!(rt; "")
+}
+
+// Prints the order at time 0 and at each time before `end` at which it changes; answers how often it did.
+fn show_changes<D: Discipline>(
+    rt: &HostRuntime,
+    d: &D,
+    core: Core,
+    row: &mut [Candidate],
+    end: u64,
+) -> io::Result<u64> {
+    arrange(d, core, row, 0);
+    show(rt, core, 0, row)?;
+    let mut changes: u64 = 0;
+    let mut from = 1;
+    while let Some(t) = next_change(d, core, row, from, end) {
+        arrange(d, core, row, t);
+        show(rt, core, t, row)?;
+        changes = changes.saturating_add(1);
+        from = t + 1;
+    }
+    Ok(changes)
+}
+
+// The handlers of a core, in the order of their numbers.
+fn on_core(heap: Global, plan: &Plan, core: Core) -> Result<Vec<Candidate>, AllocError> {
+    let mut row = Vec::new(heap);
+    for number in 1..=plan.count() {
+        let (Some(handler), Some(candidate)) = (plan.handler(number), plan.candidate(number)) else {
+            continue;
+        };
+        if handler.core == core.number() {
+            row.push(candidate)?;
+        }
+    }
+    Ok(row)
+}
+
+// Prints how many handlers there are, the round and the settling time, then each join.
+fn show_plan(rt: &HostRuntime, plan: &Plan) -> io::Result<()> {
+    let (count, round, settling) = (plan.count(), plan.round(), plan.settling());
+    println!(rt; "handlers {count}, round {round}, settling {settling}")?;
+    for first in 1..=count {
+        show_joins(rt, plan, first)?;
+    }
+    Ok(())
+}
+
+fn show_joins(rt: &HostRuntime, plan: &Plan, first: u8) -> io::Result<()> {
+    for second in 1..=plan.count() {
+        if plan.joined(first, second) {
+            println!(rt; "join {first} before {second}")?;
+        }
+    }
+    Ok(())
+}
+
+impl Account {
+    // Prints the orders of each core in use, over the settling time and one round.
+    fn of(rt: &HostRuntime, list: &Listing) -> anyhow::Result<Account> {
+        let bank = code_bank(&list.codes);
+        let times = list.plan.settling() as u64 + list.plan.round() as u64;
+        let mut cores: u64 = 0;
+        let mut changes: u64 = 0;
+        for number in 1..=8 {
+            let Some(core) = Core::new(number) else {
+                continue;
+            };
+            let mut row = on_core(rt.alloc(), &list.plan, core)?;
+            if row.is_empty() {
+                continue;
+            }
+            cores = cores.saturating_add(1);
+            changes = changes.saturating_add(show_changes(rt, &bank, core, &mut row, times)?);
+        }
+        Ok(Account {
+            cores,
+            times,
+            changes,
+        })
+    }
+}
+
+fn run(rt: &HostRuntime) -> anyhow::Result<()> {
+    let text = io::read_to_string(rt.alloc(), rt.stdin())?;
+    let list = read(rt.alloc(), text.as_str())?;
+    show_plan(rt, &list.plan)?;
+    let account = Account::of(rt, &list)?;
+    rt.println(account)?;
+    Ok(())
+}
+
+fn main(rt: HostRuntime) -> anyhow::Result<()> {
+    let done = run(&rt);
+    if let Err(trouble) = &done {
+        eprintln!(rt; "{trouble}")?;
+    }
+    done
+}
