@@ -1,6 +1,10 @@
 -- What the lines of the text form make of a plan and the codes of its cores.
-use Rattle.std.specs.Prelude.{◌≡◌, ℕ, ◌-◌, ◌≤◌, List, [], ◌∷◌, ◌++◌, Ok, replicate, min, slice_set}
+use Rattle.std.specs.Prelude.{◌≡◌, ℕ, ◌-◌, ◌<◌, ◌≤◌, ◌≢◌, ◌⊎◌, ◌==◌, List, [], ◌∷◌, ◌++◌, length, Ok, Err, replicate, min, slice_set}
+use Rattle.std.specs.List.{before_first}
+use Rattle.std.specs.Str.{NoCharPasses, EmptyOrStartsWithPassing}
+use Rattle.std.specs.Char.{is_whitespace, is_not_whitespace}
 use Rattle.terms.specs.declared.handlers.Handler.{Handler}
+use Rattle.terms.specs.declared.refusals.Refusal.{Refusal}
 use Rattle.plan.specs.Contents.{contents, empty}
 use Rattle.plan.specs.Calls.{Registers, Joins}
 use Rattle.banks.specs.declared.codes.Code.{Code}
@@ -11,7 +15,10 @@ use Rattle.notation.specs.declared.JoinLine.{JoinLine}
 use Rattle.notation.specs.declared.CoreLine.{CoreLine}
 use Rattle.notation.specs.declared.Line.{Line}
 use Rattle.notation.specs.declared.Line.TheVariants.{Empty, Handler as AHandler, Join, CoreCode}
+use Rattle.notation.specs.Lines.{Says}
 use Rattle.listing.specs.declared.Listing.{Listing}
+use Rattle.listing.specs.declared.Trouble.{Trouble}
+use Rattle.listing.specs.declared.Trouble.TheVariants.{Refused, NoCore, NoCode}
 
 -- a number as a byte: what does not fit becomes 255, which is no core, no code and no handler either
 abbrev pub byte_of : ℕ → ℕ
@@ -51,7 +58,56 @@ Took (AHandler l) was next = TookHandler l was next
 Took (Join l) was next = TookJoin l was next
 Took (CoreCode l) was next = TookCode l was next
 
+-- the plan refuses the handler, with this refusal
+abbrev pub RefusesHandler : HandlerLine → Listing → Trouble → Type 0
+RefusesHandler l was e =
+    (why : Refusal) × (e ≡ Refused why) × Registers (contents was.plan) (handler_of l) (Err why) (contents was.plan)
+
+-- the plan refuses the join, with this refusal
+abbrev pub RefusesJoin : JoinLine → Listing → Trouble → Type 0
+RefusesJoin l was e =
+    (why : Refusal) × (e ≡ Refused why) × Joins (contents was.plan) (byte_of l.first) (byte_of l.second) (Err why) (contents was.plan)
+
+-- there is no such core, or there is and the code is none
+abbrev pub RefusesCode : CoreLine → Trouble → Type 0
+RefusesCode l e =
+    (((l.core ≡ 0) ⊎ (8 < l.core)) × (e ≡ NoCore l.core))
+    ⊎ ((1 ≤ l.core) × (l.core ≤ 8) × ((c : Code) → number_of c ≢ l.code) × (e ≡ NoCode l.code))
+
+-- why a line is refused
+abbrev pub Refuses : Line → Listing → Trouble → Type 0
+Refuses Empty was e = ⊥
+Refuses (AHandler l) was e = RefusesHandler l was e
+Refuses (Join l) was e = RefusesJoin l was e
+Refuses (CoreCode l) was e = RefusesCode l e
+
+-- the text is white space, the word, and the rest, which is empty or begins with white space
+pub record StartsWithWord (text word rest : List ℕ) : Type 0 where
+  pub gap : List ℕ
+  pub split : text ≡ gap ++ (word ++ rest)
+  pub nonempty : 0 < length word
+  pub gap_is_blank : NoCharPasses is_not_whitespace gap
+  pub word_is_whole : NoCharPasses is_whitespace word
+  pub rest_starts_blank : (more : List ℕ) × EmptyOrStartsWithPassing is_whitespace rest more
+
+-- these are the words of the text: what stands between white space
+abbrev pub SplitsInto : List ℕ → List (List ℕ) → Type 0
+SplitsInto text [] = NoCharPasses is_not_whitespace text
+SplitsInto text (word ∷ words) = (rest : List ℕ) × StartsWithWord text word rest × SplitsInto rest words
+
+-- what a line says before its comment, which begins with `#`
+abbrev pub before_comment : List ℕ → List ℕ
+before_comment text = before_first (λ b. b == 35) text
+
+-- what the text of a line makes of a listing
+pub record TookText (text : List ℕ) (was next : Listing) : Type 0 where
+  pub words : List (List ℕ)
+  pub line : Line
+  pub cut : SplitsInto (before_comment text) words
+  pub says : Says words line
+  pub took : Took line was next
+
 -- what these lines make of a new listing, one after another
-pub data Lists : List Line → Listing → Type 0 where
+pub data Lists : List (List ℕ) → Listing → Type 0 where
   begun : {l : Listing} → IsNew l → Lists [] l
-  then : {lines : List Line} {was next : Listing} (line : Line) → Lists lines was → Took line was next → Lists (lines ++ line ∷ []) next
+  then : {lines : List (List ℕ)} {was next : Listing} (line : List ℕ) → Lists lines was → TookText line was next → Lists (lines ++ line ∷ []) next

@@ -7,7 +7,10 @@ ghost use Rattle.notation.specs.declared.JoinLine.{JoinLine};
 ghost use Rattle.notation.specs.declared.CoreLine.{CoreLine};
 ghost use Rattle.notation.specs.declared.Line.{Line};
 ghost use Rattle.listing.specs.declared.Listing.{Listing};
-ghost use Rattle.listing.specs.Taking.{byte_of, IsNew, TookHandler, TookJoin, TookCode, Took, Lists};
+ghost use Rattle.listing.specs.declared.Trouble.TheVariants.{Words, Refused, Memory};
+ghost use Rattle.std.specs.Str.Lines.{lines};
+ghost use Rattle.notation.specs.Lines.{texts, Says};
+ghost use Rattle.listing.specs.Taking.{byte_of, before_comment, IsNew, TookHandler, TookJoin, TookCode, Took, RefusesHandler, RefusesJoin, RefusesCode, Refuses, SplitsInto, TookText, Lists};
 
 use anyhow::bail;
 use banks::codes::Code;
@@ -37,24 +40,32 @@ pub enum Trouble {
 }
 
 impl From<AllocError> for Trouble {
+    ghost from_gives = { λ _ e. e ≡ Memory };
+
     fn from(_e: AllocError) -> Trouble {
         Trouble::Memory
     }
 }
 
 impl<T: Drop> From<AllocFailed<T>> for Trouble {
+    ghost from_gives = { λ _ e. e ≡ Memory };
+
     fn from(_e: AllocFailed<T>) -> Trouble {
         Trouble::Memory
     }
 }
 
 impl From<Problem> for Trouble {
+    ghost from_gives = { λ problem e. e ≡ Words problem };
+
     fn from(e: Problem) -> Trouble {
         Trouble::Words(e)
     }
 }
 
 impl From<Refusal> for Trouble {
+    ghost from_gives = { λ refusal e. e ≡ Refused refusal };
+
     fn from(e: Refusal) -> Trouble {
         Trouble::Refused(e)
     }
@@ -97,7 +108,7 @@ impl Listing {
     }
 
     fn add_handler(&mut self, line: HandlerLine) -> Result<(), Trouble>
-        ensures took { MatchResult result (λ _. TookHandler line self.old self.new) (λ _. (next : Listing) → TookHandler line self.old next → ⊥) }
+        ensures took { MatchResult result (λ _. TookHandler line self.old self.new) (RefusesHandler line self.old) }
         ensures same { IfErr result (λ _. self.new ≡ self.old) }
     {
         self.plan.register(Handler {
@@ -111,7 +122,7 @@ impl Listing {
     }
 
     fn add_join(&mut self, line: JoinLine) -> Result<(), Trouble>
-        ensures took { MatchResult result (λ _. TookJoin line self.old self.new) (λ _. (next : Listing) → TookJoin line self.old next → ⊥) }
+        ensures took { MatchResult result (λ _. TookJoin line self.old self.new) (RefusesJoin line self.old) }
         ensures same { IfErr result (λ _. self.new ≡ self.old) }
     {
         self.plan.join(byte(line.first), byte(line.second))?;
@@ -119,7 +130,7 @@ impl Listing {
     }
 
     fn set_code(&mut self, line: CoreLine) -> Result<(), Trouble>
-        ensures took { MatchResult result (λ _. TookCode line self.old self.new) (λ _. (next : Listing) → TookCode line self.old next → ⊥) }
+        ensures took { MatchResult result (λ _. TookCode line self.old self.new) (RefusesCode line) }
         ensures same { IfErr result (λ _. self.new ≡ self.old) }
     {
         let core = Core::new(byte(line.core)).ok_or(Trouble::NoCore(line.core))?;
@@ -130,7 +141,7 @@ impl Listing {
 
     /// Takes what a line says, unless the plan refuses it or there is no such core or code.
     pub fn take(&mut self, line: Line) -> Result<(), Trouble>
-        ensures took { MatchResult result (λ _. Took line self.old self.new) (λ _. (next : Listing) → Took line self.old next → ⊥) }
+        ensures took { MatchResult result (λ _. Took line self.old self.new) (Refuses line self.old) }
         ensures same { IfErr result (λ _. self.new ≡ self.old) }
     {
         match line {
@@ -141,22 +152,46 @@ impl Listing {
         }
     }
 
+    // Takes what these words say.
+    fn add_words(&mut self, words: &[&str]) -> Result<(), Trouble>
+        ensures took { IfOk result (λ _. (line : Line) × Says (texts words.now) line × Took line self.old self.new) }
+        ensures same { IfErr result (λ _. self.new ≡ self.old) }
+    {
+        self.take(parse_words(words)?)
+    }
+
     // Takes one line of text; what follows a `#` is a comment.
     fn add_line(&mut self, heap: Global, text: &str) -> Result<(), Trouble>
-        ensures { IfOk result (λ _. (line : Line) × Took line self.old self.new) }
+        ensures took { IfOk result (λ _. TookText text.now self.old self.new) }
+        ensures same { IfErr result (λ _. self.new ≡ self.old) }
     {
-        let said = match text.split_once('#') {
-            Some((before, _)) => before,
-            None => text,
-        };
-        let words: Vec<&str> = said.split_whitespace().collect(heap)?;
-        self.take(parse_words(words.as_slice())?)
+        let words = words(heap, before_comment(text))?;
+        self.add_words(words.as_slice())
     }
+}
+
+fn before_comment(text: &str) -> &str
+    ensures { result.now ≡ before_comment text.now }
+{
+    match text.split_once('#') {
+        Some((before, _)) => before,
+        None => text,
+    }
+}
+
+fn words(heap: Global, text: &str) -> Result<Vec<&str>, AllocError>
+    ensures { IfOk result (λ v. SplitsInto text.now (texts v.items)) }
+{
+    let mut words = Vec::new(heap);
+    for word in text.split_whitespace() {
+        words.push(word)?;
+    }
+    Ok(words)
 }
 
 /// Reads a whole list; a bad line ends it with a message that names the line.
 pub fn read(heap: Global, text: &str) -> anyhow::Result<Listing>
-    ensures { IfOk result (λ list. (lines : List Line) × Lists lines list) }
+    ensures { IfOk result (λ list. Lists (lines text.now) list) }
 {
     let mut list = Listing::new();
     for (at, line) in text.lines().enumerate() {

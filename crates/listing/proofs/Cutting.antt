@@ -1,0 +1,32 @@
+-- A text cut into lines and words, piece by piece.
+use Rattle.std.proofs.Common.{◌≡◌, ℕ, ◌+◌, ◌<◌, List, [], ◌∷◌, ◌++◌, map, length, Bor, refl, sym, ap, ◌∙◌, append_assoc}
+use Rattle.std.proofs.lemmas.List.{map-append}
+use Rattle.std.specs.List.{enumerate_from}
+use Rattle.std.specs.Str.{NoCharPasses, EmptyOrStartsWithPassing}
+use Rattle.std.specs.Char.{is_whitespace, is_not_whitespace}
+use Rattle.notation.specs.Lines.{texts}
+use Rattle.listing.specs.Taking.{StartsWithWord}
+
+-- what the iterator over words says of one, as the record
+pub starts_from : (text word rest : List ℕ) → (gap : List ℕ) × (text ≡ gap ++ (word ++ rest)) × (0 < length word) × NoCharPasses is_not_whitespace gap × NoCharPasses is_whitespace word × ((more : List ℕ) × EmptyOrStartsWithPassing is_whitespace rest more)
+    → StartsWithWord text word rest
+starts_from text word rest x = record { gap = x.0; split = x.1; nonempty = x.2; gap_is_blank = x.3; word_is_whole = x.4; rest_starts_blank = x.5 }
+
+-- one text more, and then others
+pub texts_then : (xs : List (Bor (List ℕ))) (x : Bor (List ℕ)) (more : List (List ℕ)) → texts (xs ++ x ∷ []) ++ more ≡ texts xs ++ x.now ∷ more
+texts_then xs x more = ap (λ l. l ++ more) (map-append (λ w. w.now) xs (x ∷ [])) ∙ append_assoc (texts xs) (x.now ∷ []) more
+
+-- the lines that were numbered so far
+abbrev pub lines_of : List (ℕ × Bor (List ℕ)) → List (List ℕ)
+lines_of xs = map (λ x. x.1.now) xs
+
+unnumbered : (n : ℕ) (ys : List (List ℕ)) → map {A = ℕ × List ℕ} (λ p. p.1) (enumerate_from n ys) ≡ ys
+unnumbered n [] = refl
+unnumbered n (y ∷ ys) = ap (λ l. y ∷ l) (unnumbered (n + 1) ys)
+
+lines_numbered : (xs : List (ℕ × Bor (List ℕ))) → map {A = ℕ × List ℕ} (λ p. p.1) (map (λ x. (x.0, x.1.now)) xs) ≡ lines_of xs
+lines_numbered [] = refl
+lines_numbered (x ∷ xs) = ap (λ l. x.1.now ∷ l) (lines_numbered xs)
+
+pub lines_are : (xs : List (ℕ × Bor (List ℕ))) (ys : List (List ℕ)) → map (λ x. (x.0, x.1.now)) xs ≡ enumerate_from 0 ys → lines_of xs ≡ ys
+lines_are xs ys e = sym (lines_numbered xs) ∙ ap (map {A = ℕ × List ℕ} (λ p. p.1)) e ∙ unnumbered 0 ys
