@@ -10,6 +10,7 @@ use order::disciplines::Discipline;
 use plan::plans::Plan;
 use ranking::{arrange, next_change};
 use std::alloc::{AllocError, Global};
+use std::process::ExitCode;
 use std::{fmt, io};
 
 // What the report looked at.
@@ -126,10 +127,13 @@ fn run(rt: &HostRuntime) -> anyhow::Result<()> {
     Ok(())
 }
 
-fn main(rt: HostRuntime) -> anyhow::Result<()> {
-    let done = run(&rt);
-    if let Err(trouble) = &done {
-        eprintln!(rt; "{trouble}")?;
+// A program that fails says why, once, and ends with status 1.
+fn main(rt: HostRuntime) -> io::Result<ExitCode> {
+    match run(&rt) {
+        Ok(()) => Ok(ExitCode::SUCCESS),
+        Err(trouble) => {
+            eprintln!(rt; "{trouble}")?;
+            Ok(ExitCode::FAILURE)
+        }
     }
-    done
 }

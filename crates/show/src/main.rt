@@ -7,6 +7,7 @@ use banks::codes::code_bank;
 use listing::read;
 use order::disciplines::Discipline;
 use plan::plans::Plan;
+use std::process::ExitCode;
 use std::{env, fmt, io};
 use step::given::{Misfit, unit_with};
 use step::lateness::late;
@@ -111,10 +112,13 @@ fn run(rt: &HostRuntime) -> anyhow::Result<()> {
     Ok(())
 }
 
-fn main(rt: HostRuntime) -> anyhow::Result<()> {
-    let done = run(&rt);
-    if let Err(trouble) = &done {
-        eprintln!(rt; "{trouble}")?;
+// A program that fails says why, once, and ends with status 1.
+fn main(rt: HostRuntime) -> io::Result<ExitCode> {
+    match run(&rt) {
+        Ok(()) => Ok(ExitCode::SUCCESS),
+        Err(trouble) => {
+            eprintln!(rt; "{trouble}")?;
+            Ok(ExitCode::FAILURE)
+        }
     }
-    done
 }
