@@ -1,6 +1,7 @@
 -- A text cut into lines and words, piece by piece.
 use Rattle.std.proofs.Common.{◌≡◌, ℕ, ◌+◌, ◌<◌, List, [], ◌∷◌, ◌++◌, map, length, Bor, refl, sym, ap, ◌∙◌, append_assoc}
 use Rattle.std.proofs.lemmas.List.{map-append}
+use Rattle.std.proofs.lemmas.Simd.{map-map}
 use Rattle.std.specs.List.{enumerate_from}
 use Rattle.std.specs.Str.{NoCharPasses, EmptyOrStartsWithPassing}
 use Rattle.std.specs.Char.{is_whitespace, is_not_whitespace}
@@ -24,9 +25,5 @@ unnumbered : (n : ℕ) (ys : List (List ℕ)) → map {A = ℕ × List ℕ} (λ 
 unnumbered n [] = refl
 unnumbered n (y ∷ ys) = ap (λ l. y ∷ l) (unnumbered (n + 1) ys)
 
-lines_numbered : (xs : List (ℕ × Bor (List ℕ))) → map {A = ℕ × List ℕ} (λ p. p.1) (map (λ x. (x.0, x.1.now)) xs) ≡ lines_of xs
-lines_numbered [] = refl
-lines_numbered (x ∷ xs) = ap (λ l. x.1.now ∷ l) (lines_numbered xs)
-
 pub lines_are : (xs : List (ℕ × Bor (List ℕ))) (ys : List (List ℕ)) → map (λ x. (x.0, x.1.now)) xs ≡ enumerate_from 0 ys → lines_of xs ≡ ys
-lines_are xs ys e = sym (lines_numbered xs) ∙ ap (map {A = ℕ × List ℕ} (λ p. p.1)) e ∙ unnumbered 0 ys
+lines_are xs ys e = sym (map-map (λ p. p.1) (λ x. (x.0, x.1.now)) xs) ∙ ap (map {A = ℕ × List ℕ} (λ p. p.1)) e ∙ unnumbered 0 ys
