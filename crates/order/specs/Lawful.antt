@@ -7,13 +7,13 @@ use Rattle.order.specs.declared.candidates.Candidate.{Candidate}
 use Rattle.order.specs.Deadlines.{distance}
 use Rattle.order.specs.Laws.{Ranking, IsLawfulRanking, IsLawfulChoice}
 use Rattle.order.specs.Meanings.{by_number, by_period, by_distance, numbered}
-use Rattle.order.specs.Ranks.{smaller}
+use Rattle.std.specs.Ordering.{nat_cmp}
 use Rattle.order.specs.Distances.{distance_again}
 use Rattle.order.specs.Lexical.{lexical}
 
 -- ranking by the smaller value of each candidate, if that value repeats with the period
 smaller_lawful : (f : Candidate → ℕ → ℕ) → ((a : Candidate) (t p : ℕ) → a.offset ≤ t → a.period ∣ p → f a (t + p) ≡ f a t)
-    → IsLawfulRanking (λ k a b t. smaller (f a t) (f b t))
+    → IsLawfulRanking (λ k a b t. nat_cmp (f a t) (f b t))
 smaller_lawful f again = record {
   reverses = λ k a b t. grind (arith, nat_tests);
   carries = λ k a b d t x y. grind (arith, nat_tests);

@@ -3,12 +3,12 @@ use Rattle.std.specs.Prelude.{◌≡◌, ℕ, ◌+◌, ◌≤◌, Bool, true, no
 use Rattle.std.specs.Int.{◌∣◌}
 use Rattle.order.specs.declared.cores.Core.{Core}
 use Rattle.order.specs.declared.candidates.Candidate.{Candidate}
-use Rattle.order.specs.declared.criteria.Rank.{Rank}
-use Rattle.order.specs.Ranks.{reversed, ahead_or_level}
+use Rattle.std.specs.declared.cmp.Ordering.{Ordering}
+use Rattle.std.specs.Ordering.{is_le, ordering_reverse}
 
 -- what a criterion means: how the first candidate ranks against the second, on a core at a time
 abbrev pub Ranking : Type 0
-Ranking = Core → Candidate → Candidate → ℕ → Rank
+Ranking = Core → Candidate → Candidate → ℕ → Ordering
 
 -- what a discipline means: whether the first candidate goes before the second, on a core at a time
 abbrev pub Choice : Type 0
@@ -23,8 +23,8 @@ pub record Recurs (a b : Candidate) (t p : ℕ) : Type 0 where
 
 -- the ranks of a criterion: exchanging the two reverses them, they chain, and they repeat
 pub record IsLawfulRanking (ranks : Ranking) : Type 0 where
-  pub reverses : (k : Core) (a b : Candidate) (t : ℕ) → ranks k b a t ≡ reversed (ranks k a b t)
-  pub carries : (k : Core) (a b d : Candidate) (t : ℕ) → ahead_or_level (ranks k a b t) ≡ true → ahead_or_level (ranks k b d t) ≡ true → ahead_or_level (ranks k a d t) ≡ true
+  pub reverses : (k : Core) (a b : Candidate) (t : ℕ) → ranks k b a t ≡ ordering_reverse (ranks k a b t)
+  pub carries : (k : Core) (a b d : Candidate) (t : ℕ) → is_le (ranks k a b t) ≡ true → is_le (ranks k b d t) ≡ true → is_le (ranks k a d t) ≡ true
   pub repeats : (k : Core) (a b : Candidate) (t p : ℕ) → Recurs a b t p → ranks k a b (t + p) ≡ ranks k a b t
 
 -- they have different numbers

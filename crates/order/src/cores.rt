@@ -1,5 +1,7 @@
 // Cores. The type carries the range, so a question about another core cannot be put.
-ghost use Rattle.std.specs.Prelude.{◌≡◌, ◌≤◌, ◌&&◌, is_some, IfSome, nat_le};
+ghost use Rattle.std.specs.Prelude.{◌≡◌, ℕ, ◌+◌, ◌-◌, ◌<◌, ◌≤◌, ◌&&◌, is_some, IfSome, Some, nat_le, slice_get};
+
+use std::array;
 
 /// One of the eight cores, numbered from 1.
 #[derive(Clone, Copy)]
@@ -20,6 +22,30 @@ impl Core {
         } else {
             None
         }
+    }
+
+    /// All eight, in the order of their numbers.
+    pub fn all() -> [Core; 8]
+        ensures { (i : ℕ) (k : _) → slice_get result i ≡ Some k → k.number ≡ i + 1 }
+    {
+        array::from_fn(
+            |i|
+                requires { i < 8 }
+                ensures { result.number ≡ i + 1 }
+            {
+                Core {
+                    number: i as u8 + 1,
+                }
+            },
+        )
+    }
+
+    /// The core's place in a table of eight: its number less one.
+    pub fn place(self) -> usize
+        ensures value { result ≡ self.number - 1 }
+        ensures inside { result < 8 }
+    {
+        usize::from(self.number) - 1
     }
 
     pub fn number(self) -> u8

@@ -8,7 +8,7 @@ ghost use Rattle.order.specs.Lawful.{numbered_lawful};
 
 use crate::candidates::Candidate;
 use crate::cores::Core;
-use crate::criteria::{Criterion, Rank};
+use crate::criteria::Criterion;
 
 /// Chooses between any two candidates of a core at any time. `first` is its meaning: nothing else enters an answer.
 pub trait Discipline {
@@ -33,10 +33,7 @@ impl<C: Criterion> Discipline for Numbered<C> {
     ghost lawful = { λ s. numbered_lawful (C.Criterion.ranks s.criterion) (C.Criterion.lawful s.criterion) };
 
     fn goes_first(&self, core: Core, a: Candidate, b: Candidate, t: u64) -> bool {
-        match self.criterion.compare(core, a, b, t) {
-            Rank::Ahead => true,
-            Rank::Level => a.number() < b.number(),
-            Rank::Behind => false,
-        }
+        let rank = self.criterion.compare(core, a, b, t);
+        rank.then(a.number().cmp(&b.number())).is_lt()
     }
 }
