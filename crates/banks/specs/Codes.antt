@@ -1,10 +1,11 @@
 -- The codes of the three criteria.
-use Rattle.std.specs.Prelude.{ℕ, ◌-◌, List, slice_index_or}
+use Rattle.std.specs.Prelude.{◌≡◌, ◌≢◌, ℕ, ◌-◌, List, slice_index_or, Result, MatchResult}
 use Rattle.order.specs.declared.cores.Core.{Core}
 use Rattle.banks.specs.declared.Side.{Side}
 use Rattle.banks.specs.declared.Side.TheVariants.{Left, Right}
 use Rattle.banks.specs.declared.codes.Code.{Code}
 use Rattle.banks.specs.declared.codes.Code.TheVariants.{FixedPriority, RateMonotonic, EarliestDeadline}
+use Rattle.banks.specs.declared.codes.UnknownCode.{UnknownCode}
 use Rattle.banks.specs.Banks.{side_at}
 use Rattle.order.specs.Laws.{Ranking, Choice}
 use Rattle.order.specs.Meanings.{by_number, by_period, by_distance, numbered}
@@ -14,6 +15,10 @@ abbrev pub number_of : Code → ℕ
 number_of FixedPriority = 1
 number_of RateMonotonic = 2
 number_of EarliestDeadline = 3
+
+-- the code of that number, or the number back where no code has it
+abbrev pub Decodes : ℕ → Result Code UnknownCode → Type 0
+Decodes number r = MatchResult r (λ c. number_of c ≡ number) (λ e. (e.0 ≡ number) × ((c : Code) → number_of c ≢ number))
 
 -- the criterion that a code stands for
 abbrev pub ranks_by : Code → Ranking

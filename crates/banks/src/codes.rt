@@ -3,7 +3,7 @@ ghost use Rattle.std.specs.Prelude.{◌≡◌, ℕ, ◌-◌, ◌<◌, MatchOptio
 ghost use Rattle.banks.specs.declared.codes.Code.{Code};
 ghost use Rattle.order.specs.declared.cores.Core.{Core};
 ghost use Rattle.order.specs.declared.candidates.Candidate.{Candidate};
-ghost use Rattle.banks.specs.Codes.{number_of, code_in, coded};
+ghost use Rattle.banks.specs.Codes.{number_of, Decodes, code_in, coded};
 
 use crate::{Bank, Side, Table};
 use order::candidates::Candidate;
@@ -14,32 +14,36 @@ use order::disciplines::{Discipline, Numbered};
 /// The criterion of a core, as plans name it.
 #[derive(Clone, Copy)]
 pub enum Code {
-    FixedPriority,
-    RateMonotonic,
-    EarliestDeadline,
+    FixedPriority = 1,
+    RateMonotonic = 2,
+    EarliestDeadline = 3,
+}
+
+/// A number that is no code.
+#[derive(Clone, Copy, PartialEq, Debug)]
+pub struct UnknownCode(pub u8);
+
+impl TryFrom<u8> for Code {
+    type Error = UnknownCode;
+
+    ghost try_from_gives = { Decodes };
+
+    fn try_from(number: u8) -> Result<Code, UnknownCode> {
+        match number {
+            1 => Ok(Code::FixedPriority),
+            2 => Ok(Code::RateMonotonic),
+            3 => Ok(Code::EarliestDeadline),
+            _ => Err(UnknownCode(number)),
+        }
+    }
 }
 
 impl Code {
-    /// The code of this number; `None` for a number other than 1, 2 and 3.
-    pub fn new(number: u8) -> Option<Code>
-        ensures { MatchOption result ((c : Code) → number_of c ≢ number) (λ c. number_of c ≡ number) }
-    {
-        match number {
-            1 => Some(Code::FixedPriority),
-            2 => Some(Code::RateMonotonic),
-            3 => Some(Code::EarliestDeadline),
-            _ => None,
-        }
-    }
-
+    /// The number by which a plan names it.
     pub fn number(self) -> u8
         ensures { result ≡ number_of self }
     {
-        match self {
-            Code::FixedPriority => 1,
-            Code::RateMonotonic => 2,
-            Code::EarliestDeadline => 3,
-        }
+        self as u8
     }
 }
 
@@ -90,10 +94,8 @@ pub fn code_bank(codes: &[Code; 8]) -> CodeBank
     ensures { (k : Core) (a b : Candidate) (t : ℕ) → ⟦<CodeBank as Discipline>⟧.first result k a b t ≡ coded codes.now k a b t }
 {
     let mut bank = fixed_everywhere();
-    for number in 1..=8 {
-        if let Some(core) = Core::new(number) {
-            assign(&mut bank, core, codes[number as usize - 1]);
-        }
+    for core in Core::all() {
+        assign(&mut bank, core, codes[core.place()]);
     }
     bank
 }

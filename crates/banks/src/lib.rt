@@ -38,15 +38,14 @@ impl Table {
         ensures changed { side_at self.new.sides core ≡ side }
         ensures others { (k : Core) → (k.number ≢ core.number) → side_at self.new.sides k ≡ side_at self.old.sides k }
     {
-        self.sides[core.number() as usize - 1] = side;
+        self.sides[core.place()] = side;
     }
 
     /// The side that answers for a core.
     pub fn side(&self, core: Core) -> Side
         ensures { result ≡ side_at self.now.sides core }
     {
-        let place = core.number() as usize - 1;
-        self.sides[place]
+        self.sides[core.place()]
     }
 }
 

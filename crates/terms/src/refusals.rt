@@ -8,21 +8,21 @@ use std::fmt;
 #[derive(Clone, Copy, PartialEq, Debug)]
 pub enum Refusal {
     /// The plan has 64 handlers.
-    PlanFull,
+    PlanFull = 1,
     /// The period is 0.
-    NoPeriod,
+    NoPeriod = 2,
     /// The shortest time is 0 or above the longest.
-    NoTimes,
+    NoTimes = 3,
     /// The core is 0 or above 8.
-    NoSuchCore,
+    NoSuchCore = 4,
     /// The least common multiple of the periods would pass 16,777,216.
-    LongRound,
+    LongRound = 5,
     /// No handler has that number.
-    NoSuchHandler,
+    NoSuchHandler = 6,
     /// The periods or the offsets differ.
-    OtherTimes,
+    OtherTimes = 7,
     /// A handler would wait for itself.
-    Circle,
+    Circle = 8,
 }
 
 impl Refusal {
@@ -30,16 +30,7 @@ impl Refusal {
     pub fn number(self) -> u8
         ensures { result ≡ refusal_number self }
     {
-        match self {
-            Refusal::PlanFull => 1,
-            Refusal::NoPeriod => 2,
-            Refusal::NoTimes => 3,
-            Refusal::NoSuchCore => 4,
-            Refusal::LongRound => 5,
-            Refusal::NoSuchHandler => 6,
-            Refusal::OtherTimes => 7,
-            Refusal::Circle => 8,
-        }
+        self as u8
     }
 }
 
