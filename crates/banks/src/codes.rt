@@ -10,6 +10,7 @@ use order::candidates::Candidate;
 use order::cores::Core;
 use order::criteria;
 use order::disciplines::{Discipline, Numbered};
+use thiserror::Error;
 
 /// The criterion of a core, as plans name it.
 #[derive(Clone, Copy)]
@@ -20,7 +21,8 @@ pub enum Code {
 }
 
 /// A number that is no code.
-#[derive(Clone, Copy, PartialEq, Debug)]
+#[derive(Clone, Copy, PartialEq, Eq, Debug, Error)]
+#[error("there is no code {0}: codes are 1, 2 and 3")]
 pub struct UnknownCode(pub u8);
 
 impl TryFrom<u8> for Code {
