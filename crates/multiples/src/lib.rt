@@ -9,12 +9,9 @@ pub fn greatest_common_divisor(a: u32, b: u32) -> u32
     ensures value { result ≡ gcd a b }
     ensures greatest { GreatestCommonDivisor a b result }
 {
-    let mut x = a;
-    let mut y = b;
+    let (mut x, mut y) = (a, b);
     while y != 0 {
-        let rest = x % y;
-        x = y;
-        y = rest;
+        (x, y) = (y, x % y);
     }
     x
 }
@@ -27,12 +24,8 @@ pub fn least_common_multiple(a: u32, b: u32, limit: u32) -> Option<u32>
     if a == 0 || b == 0 {
         return Some(0);
     }
-    let product = (a / greatest_common_divisor(a, b)) as u64 * b as u64;
-    if product <= limit as u64 {
-        Some(product as u32)
-    } else {
-        None
-    }
+    let product = u64::from(a / greatest_common_divisor(a, b)) * u64::from(b);
+    u32::try_from(product).ok().filter(|m| *m <= limit)
 }
 
 #[cfg(test)]
