@@ -6,16 +6,6 @@ ghost use Rattle.model.specs.Theorems.{KeptCountsAllMarks, OneVerdict};
 use crate::verdicts::{Miss, Verdict};
 
 impl Verdict {
-    fn told_kept(self, kept: bool) -> bool
-        requires { kept ≡ is_kept self }
-        ensures value { result ≡ is_kept self }
-        ensures promises { result ≡ true → Promises self }
-        ensures marks { KeptCountsAllMarks }
-        ensures one { OneVerdict }
-    {
-        kept
-    }
-
     /// Whether the verdict is that no run is ever late.
     pub fn is_kept(self) -> bool
         ensures value { result ≡ is_kept self }
@@ -23,23 +13,7 @@ impl Verdict {
         ensures marks { KeptCountsAllMarks }
         ensures one { OneVerdict }
     {
-        let kept = match self {
-            Verdict::Kept {
-                rounds: _,
-                marks: _,
-            } => true,
-            Verdict::Missed { time: _, number: _ } => false,
-            Verdict::RowsShort { rows: _, time: _ } => false,
-        };
-        self.told_kept(kept)
-    }
-
-    fn told_miss(self, miss: Option<Miss>) -> Option<Miss>
-        requires { miss ≡ miss_of self }
-        ensures value { result ≡ miss_of self }
-        ensures accuses { Accuses self result }
-    {
-        miss
+        matches!(self, Verdict::Kept { .. })
     }
 
     /// The earliest time at which a run is late and the lowest number late then, where the verdict is that one is.
@@ -47,14 +21,9 @@ impl Verdict {
         ensures value { result ≡ miss_of self }
         ensures accuses { Accuses self result }
     {
-        let miss = match self {
-            Verdict::Kept {
-                rounds: _,
-                marks: _,
-            } => None,
+        match self {
             Verdict::Missed { time, number } => Some(Miss { time, number }),
-            Verdict::RowsShort { rows: _, time: _ } => None,
-        };
-        self.told_miss(miss)
+            Verdict::Kept { .. } | Verdict::RowsShort { .. } => None,
+        }
     }
 }
