@@ -10,6 +10,5 @@ pub mod Made
 pub mod Marks
 pub mod One
 pub mod Repeat
-pub mod Telling
 pub mod Unique
 pub mod Waiting
