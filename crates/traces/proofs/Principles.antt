@@ -7,7 +7,7 @@ use Rattle.order.specs.declared.candidates.Candidate.{Candidate}
 use Rattle.order.specs.Deadlines.{distance}
 use Rattle.order.specs.Laws.{IsLawfulChoice, IsLawfulRanking}
 use Rattle.order.specs.Meanings.{by_rank, numbered}
-use Rattle.order.specs.Ranks.{smaller}
+use Rattle.std.specs.Ordering.{nat_cmp}
 use Rattle.order.specs.Distances.{distance_next, next_distance}
 use Rattle.order.specs.Lawful.{by_number_lawful, by_period_lawful, by_distance_lawful, numbered_lawful}
 use Rattle.banks.specs.declared.codes.Code.{Code}
@@ -35,15 +35,15 @@ coded_lawful codes = record { reverses = λ k. (law k).reverses k; carries = λ 
 -- ---- and says what the priorities say
 
 -- the test that numbering makes, as a relation
-tells_rank : (x y a b : ℕ) → by_rank (smaller x y) (suc a) (suc b) ≡ true ↔ LessOrFirst x a y b
+tells_rank : (x y a b : ℕ) → by_rank (nat_cmp x y) (suc a) (suc b) ≡ true ↔ LessOrFirst x a y b
 tells_rank x y a b = (λ e. go e (cases_order x y), back)
   where
-    go : by_rank (smaller x y) (suc a) (suc b) ≡ true → (x ≡ y) ⊎ ((x < y) ⊎ (y < x)) → LessOrFirst x a y b
+    go : by_rank (nat_cmp x y) (suc a) (suc b) ≡ true → (x ≡ y) ⊎ ((x < y) ⊎ (y < x)) → LessOrFirst x a y b
     go e (inl h) = inr (h, grind (arith, nat_tests))
     go e (inr (inl h)) = inl h
     go e (inr (inr h)) = absurd (grind (arith, nat_tests))
 
-    back : LessOrFirst x a y b → by_rank (smaller x y) (suc a) (suc b) ≡ true
+    back : LessOrFirst x a y b → by_rank (nat_cmp x y) (suc a) (suc b) ≡ true
     back (inl h) = grind (arith, nat_tests)
     back (inr (e, h)) = grind (arith, nat_tests)
 
@@ -65,7 +65,7 @@ module _ (p : Contents) (t a b : ℕ) (c : Core) (x y : Candidate) (sx : StandsF
   iy : OfPlace y p b
   iy = of_place y p b sy
 
-  asked : (u v m n : ℕ) → u ≡ m → v ≡ n → by_rank (smaller u v) x.number y.number ≡ true ↔ LessOrFirst m a n b
+  asked : (u v m n : ℕ) → u ≡ m → v ≡ n → by_rank (nat_cmp u v) x.number y.number ≡ true ↔ LessOrFirst m a n b
   asked u v m n e f = rw (sx.number, sy.number, e, f) (tells_rank m n a b)
 
   by_code : (code : Code) → numbered (ranks_by code) c x y t ≡ true ↔ Higher code p t a b
