@@ -5,8 +5,8 @@ use Rattle.gather.specs.declared.Halt.{Halt}
 use Rattle.gather.specs.declared.Halt.TheVariants.{Full, Fault}
 
 -- a test that says whether two elements are one
-abbrev pub Tells : {A : Type 0} → (A → A → Bool → Type 0) → Type 0
-Tells {A} E = (x y : A) (r : Bool) → E x y r → Decides r (x ≡ y)
+abbrev pub Tells : {A : Type 0} → (A → A → Bool) → Type 0
+Tells {A} eq = (x y : A) → Decides (eq x y) (x ≡ y)
 
 -- no element stands twice
 abbrev pub Once : {A : Type 0} → List A → Type 0
