@@ -53,9 +53,8 @@ fn longer_round(round: u32, period: u16) -> Option<u32>
 }
 
 impl Plan {
-    // A plan of blank rows and no joins.
-    fn of_blanks(handlers: [Handler; 64], joins: [[bool; 64]; 64]) -> Plan
-        requires { (handlers ≡ replicate 64 blank) × (joins ≡ replicate 64 (replicate 64 false)) }
+    /// A plan with no handler.
+    pub fn new() -> Plan
         ensures holds { contents result ≡ empty }
         ensures tell { ContentsTell }
         ensures one { OneAnswer }
@@ -65,19 +64,9 @@ impl Plan {
             count: 0,
             round: 1,
             settling: 0,
-            handlers,
-            joins,
+            handlers: [blank_row(); 64],
+            joins: [[false; 64]; 64],
         }
-    }
-
-    /// A plan with no handler.
-    pub fn new() -> Plan
-        ensures holds { contents result ≡ empty }
-        ensures tell { ContentsTell }
-        ensures one { OneAnswer }
-        ensures sound { AllSound }
-    {
-        Plan::of_blanks([blank_row(); 64], [[false; 64]; 64])
     }
 
     // The round with this handler added, if no test refuses it.
@@ -98,15 +87,10 @@ impl Plan {
         ensures registers { Registers (contents self.old) handler (Ok result) (contents self.new) }
         ensures nth { (calls : List Call) → After calls (contents self.old) → result ≡ accepted calls + 1 }
     {
-        let mut handlers = self.handlers;
-        handlers[self.count as usize] = handler;
-        *self = Plan {
-            count: self.count + 1,
-            round: longer,
-            settling: self.settling.max(handler.offset),
-            handlers,
-            joins: self.joins,
-        };
+        self.handlers[self.count as usize] = handler;
+        self.count += 1;
+        self.round = longer;
+        self.settling = self.settling.max(handler.offset);
         self.count
     }
 

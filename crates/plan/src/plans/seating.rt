@@ -24,15 +24,7 @@ impl Plan {
         requires { MaySeat (contents self.old) number core }
         ensures { Reseats (contents self.old) number core (Ok tt) (contents self.new) }
     {
-        let mut handlers = self.handlers;
-        handlers[number as usize - 1].core = core;
-        *self = Plan {
-            count: self.count,
-            round: self.round,
-            settling: self.settling,
-            handlers,
-            joins: self.joins,
-        };
+        self.handlers[number as usize - 1].core = core;
     }
 
     /// Moves the handler of this number to another core, or to the same one.

@@ -5,7 +5,7 @@ use Rattle.plan.specs.Joins.{joined_in}
 use Rattle.plan.proofs.Answered.{one_answer_each}
 use Rattle.plan.proofs.Facts.{contents_tell, sound}
 use Rattle.plan.proofs.Kept.{with_joined, new_facts, new_contents}
-use Rattle.plan.proofs.plans.Plan.of_blanks.Goals as goal
+use Rattle.plan.proofs.plans.Plan.new.Goals as goal
 
 pub invariant_of-result : goal.invariant_of-result
 invariant_of-result c = record {
