@@ -1,9 +1,9 @@
 -- An element or a level added to what was found: what `insert` makes, and what the loop of `absorb` keeps.
 use Rattle.std.proofs.Common.{◌≡◌, ℕ, ◌+◌, ◌-◌, ◌<◌, ◌≤◌, List, [], ◌∷◌, ◌++◌, length, get_or, take, drop, set, refl, sym, ap, ◌∙◌, subst, inl, inr, arith}
-use Rattle.std.specs.List.{ContainsAt as Has}
+use Rattle.std.specs.List.{Contains as Has}
 use Rattle.std.proofs.lemmas.Bool.{cases_lt}
 use Rattle.std.proofs.lemmas.List.{take-append-le, take-take, length-take, length_push, get_or_push, get_or_append_left, get_or_default, take_more, take_more_set, drop-set-lt, drop-drop, length-set, take_all, take-append-drop}
-use Rattle.std.proofs.ByRecursion.{has_append_left, has_append_right, has_append_cases}
+use Rattle.std.proofs.lemmas.List.Elements.{Contains-append_left, Contains-append_right, Contains-append_cases}
 use Rattle.gather.specs.Levels.{Once, Filled}
 use Rattle.gather.specs.Growth.{Grown, Overfull}
 
@@ -26,14 +26,14 @@ module _ {A : Type 0} where
         | inl jl ↦ once i j d lt jl (sym left ∙ e ∙ get_or_append_left xs (x ∷ []) d j jl)
         | inr ge ↦
             (let je : length xs ≡ j = omega (arith, len) in
-            lacks (i, il, λ d'. get_or_default xs i d' d il ∙ (sym left ∙ e ∙ get_or_push xs x d j je)))
+            lacks (i, il, get_or_default xs i x d il ∙ (sym left ∙ e ∙ get_or_push xs x d j je)))
       ]
 
   -- ---- one element
 
   module _ (front : List A) (x : A) where
     only_one : (y : A) → Has (x ∷ []) y → x ≡ y
-    only_one y h = let at : h.0 ≡ 0 = omega (arith, h.1) in subst (λ k. get_or (x ∷ []) k x ≡ y) at (h.2 x)
+    only_one y h = let at : h.0 ≡ 0 = omega (arith, h.1) in subst (λ k. get_or (x ∷ []) k y ≡ y) at h.2
 
     grown_here : Has front x → Grown front (x ∷ []) front
     grown_here here = record {
@@ -49,9 +49,9 @@ module _ {A : Type 0} where
       grown_push = record {
         begins = take-append-le (length front) front (x ∷ []) (omega arith) ∙ take_all (length front) front (omega arith);
         once = λ h. once_push front x h lacks;
-        old = λ y h. has_append_left front (x ∷ []) y h;
-        new = λ y h. has_append_right front (x ∷ []) y h;
-        only = λ y h. has_append_cases front (x ∷ []) y h;
+        old = λ y h. Contains-append_left front (x ∷ []) y h;
+        new = λ y h. Contains-append_right front (x ∷ []) y h;
+        only = λ y h. Contains-append_cases front (x ∷ []) y h;
       }
 
       overfull_one : Overfull front (x ∷ []) front
@@ -60,7 +60,7 @@ module _ {A : Type 0} where
         old = λ y h. h;
         only = λ y h. inl h;
         extra = x;
-        there = (0, omega arith, λ d. refl);
+        there = (0, omega arith, refl);
         lacks = lacks;
       }
 
@@ -91,11 +91,11 @@ module _ {A : Type 0} where
       begins = sym (take-take (length front) (length mid) after (front_le front mid g.begins)) ∙ ap (take (length front)) h.begins ∙ g.begins;
       once = λ o. h.once (g.once o);
       old = λ y k. h.old y (g.old y k);
-      new = λ y k. elim (has_append_cases xs ys y k) [ inl m ↦ h.old y (g.new y m) | inr m ↦ h.new y m ];
+      new = λ y k. elim (Contains-append_cases xs ys y k) [ inl m ↦ h.old y (g.new y m) | inr m ↦ h.new y m ];
       only = λ y k.
           elim (h.only y k) [
-            | inl m ↦ (elim (g.only y m) [ inl i ↦ inl i | inr i ↦ inr (has_append_left xs ys y i) ])
-            | inr m ↦ inr (has_append_right xs ys y m)
+            | inl m ↦ (elim (g.only y m) [ inl i ↦ inl i | inr i ↦ inr (Contains-append_left xs ys y i) ])
+            | inr m ↦ inr (Contains-append_right xs ys y m)
           ];
     }
 
@@ -106,11 +106,11 @@ module _ {A : Type 0} where
       old = λ y k. h.old y (g.old y k);
       only = λ y k.
           elim (h.only y k) [
-            | inl m ↦ (elim (g.only y m) [ inl i ↦ inl i | inr i ↦ inr (has_append_left (xs ++ ys) more y (has_append_left xs ys y i)) ])
-            | inr m ↦ inr (has_append_left (xs ++ ys) more y (has_append_right xs ys y m))
+            | inl m ↦ (elim (g.only y m) [ inl i ↦ inl i | inr i ↦ inr (Contains-append_left (xs ++ ys) more y (Contains-append_left xs ys y i)) ])
+            | inr m ↦ inr (Contains-append_left (xs ++ ys) more y (Contains-append_right xs ys y m))
           ];
       extra = h.extra;
-      there = has_append_left (xs ++ ys) more h.extra (has_append_right xs ys h.extra h.there);
+      there = Contains-append_left (xs ++ ys) more h.extra (Contains-append_right xs ys h.extra h.there);
       lacks = h.lacks;
     }
 

@@ -1,9 +1,8 @@
 -- One level more: what the loop of `gather` keeps, and how it ends.
 use Rattle.std.proofs.Common.{◌≡◌, ℕ, zero, suc, ◌+◌, ◌<◌, ◌≤◌, List, [], ◌∷◌, ◌++◌, length, get_or, take, sym, refl, ap, ◌∙◌, inl, inr, arith}
-use Rattle.std.specs.List.{ContainsAt as Has}
+use Rattle.std.specs.List.{Contains as Has}
 use Rattle.std.proofs.lemmas.List.{get_or-take, length-take, length-take-le, take_all}
-use Rattle.std.proofs.ByRecursion.{has_append_left, has_append_right}
-pub use Rattle.std.proofs.ByRecursion.{has_append_cases}
+use Rattle.std.proofs.lemmas.List.Elements.{Contains-append_left, Contains-append_right, Contains-append_cases}
 use Rattle.gather.specs.Levels.{Collects, Fresh, Walk, start, onward, Closes, Bursts, Stops, Filled}
 use Rattle.gather.specs.Growth.{Grown, Overfull}
 use Rattle.gather.proofs.Growing.{drop_further}
@@ -23,8 +22,8 @@ module _ {A : Type 0} where
       let x = p.0 in
       let lacks : Has front x → ⊥ = λ h.
       g.once c.once h.0 n x h.1 more
-      (sym (get_or-take n after h.0 x h.1) ∙ ap (λ l. get_or l h.0 x) g.begins ∙ h.2 x ∙ sym (p.1 x)) in
-      elim (g.only x (n, more, p.1)) [
+      (sym (get_or-take n after h.0 x h.1) ∙ ap (λ l. get_or l h.0 x) g.begins ∙ h.2 ∙ sym (p.1 x)) in
+      elim (g.only x (n, more, p.1 x)) [
         | inl h ↦ absurd (lacks h)
         | inr h ↦ (x, h, λ k. lacks (c.each x k))
       ]
@@ -32,8 +31,8 @@ module _ {A : Type 0} where
   collects_more : (seen front xs after : List A) → Collects seen front → Grown front xs after → Collects (seen ++ xs) after
   collects_more seen front xs after c g = record {
     once = g.once c.once;
-    each = λ x h. elim (has_append_cases seen xs x h) [ inl k ↦ g.old x (c.each x k) | inr k ↦ g.new x k ];
-    only = λ x h. elim (g.only x h) [ inl k ↦ has_append_left seen xs x (c.only x k) | inr k ↦ has_append_right seen xs x k ];
+    each = λ x h. elim (Contains-append_cases seen xs x h) [ inl k ↦ g.old x (c.each x k) | inr k ↦ g.new x k ];
+    only = λ x h. elim (g.only x h) [ inl k ↦ Contains-append_left seen xs x (c.only x k) | inr k ↦ Contains-append_right seen xs x k ];
   }
 
   module _ {S : Type 0} (shows : S → List A) (steps : S → S → Type 0) (s : S) where

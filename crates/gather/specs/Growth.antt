@@ -1,6 +1,6 @@
 -- What one level adds to what was found before it.
 use Rattle.std.specs.Prelude.{◌≡◌, ℕ, ◌≤◌, ◌⊎◌, List, Option, MatchOption, length, take}
-use Rattle.std.specs.List.{ContainsAt as Has}
+use Rattle.std.specs.List.{Contains as Has}
 use Rattle.gather.specs.Levels.{Once, Filled}
 
 -- `after` is `front`, followed by those of `xs` that it lacks, each once

@@ -1,6 +1,6 @@
 -- Gathering: levels of elements, each of which leads to the next, and what was found in them.
 use Rattle.std.specs.Prelude.{◌≡◌, ℕ, ◌+◌, ◌<◌, ◌≤◌, Bool, ◌⊎◌, List, [], ◌++◌, length, take, drop, Decides, ◌≢◌, slice_index_or}
-use Rattle.std.specs.List.{ContainsAt as Has}
+use Rattle.std.specs.List.{Contains as Has}
 use Rattle.gather.specs.declared.Halt.{Halt}
 use Rattle.gather.specs.declared.Halt.TheVariants.{Full, Fault}
 

@@ -2,7 +2,7 @@
 #![tactic(auto)]
 
 ghost use Rattle.std.specs.Prelude.{◌≡◌, ◌≤◌, List, [], ◌∷◌, length, take, Decides, MatchResult};
-ghost use Rattle.std.specs.List.{ContainsAt as Has};
+ghost use Rattle.std.specs.List.{Contains as Has};
 ghost use Rattle.gather.specs.Levels.{Tells, Closes, Filled, Halted};
 ghost use Rattle.gather.specs.Growth.{Absorbs};
 ghost use Rattle.std.proofs.lemmas.Bool.Decides.{Decides-eqb};

@@ -1,6 +1,6 @@
 -- What a gathering along the joins tells.
 use Rattle.std.proofs.Common.{◌≡◌, ℕ, ◌-◌, ◌<◌, Bool, true, eqb, List, [], ◌∷◌, length, take, Decides, sym, subst, arith}
-use Rattle.std.specs.List.{ContainsAt as Has, IsAnyAnswer}
+use Rattle.std.specs.List.{Contains as Has, IsAnyAnswer}
 use Rattle.std.specs.declared.convert.Infallible.{Infallible}
 use Rattle.std.proofs.lemmas.List.Elements.{contains_decides}
 use Rattle.gather.specs.Levels.{Closes, Bursts}

@@ -1,6 +1,6 @@
 -- Going along the joins, level by level.
 use Rattle.std.specs.Prelude.{◌≡◌, ℕ, ◌<◌, Bool, true, List, Any}
-use Rattle.std.specs.List.{ContainsAt as Has}
+use Rattle.std.specs.List.{Contains as Has}
 use Rattle.plan.specs.Joins.{joined_in}
 
 -- some place of `from` is joined before `to`
