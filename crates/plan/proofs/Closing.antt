@@ -2,7 +2,7 @@
 use Rattle.std.proofs.Common.{◌≡◌, ℕ, ◌-◌, ◌<◌, Bool, true, eqb, List, [], ◌∷◌, length, take, Decides, sym, subst, arith}
 use Rattle.std.specs.List.{Contains as Has, IsAnyAnswer}
 use Rattle.std.specs.declared.convert.Infallible.{Infallible}
-use Rattle.std.proofs.lemmas.List.Elements.{contains_decides}
+use Rattle.std.proofs.lemmas.List.Elements.{contains_decides, Decides-contains}
 use Rattle.gather.specs.Levels.{Closes, Bursts}
 use Rattle.gather.specs.declared.Halt.{Halt}
 use Rattle.gather.specs.declared.Halt.TheVariants.{Full}
@@ -24,7 +24,7 @@ steps s t = (table_of t ≡ table_of s) × Follows (table_of s) (shows s) (shows
 module _ (s : Along) (from : ℕ) (is : shows s ≡ from ∷ []) (small : from < 64) (inside : (x y : ℕ) → joined_in (table_of s) x y ≡ true → y < 64) where
   pub closing : {t : Along} {n : ℕ} {all : List ℕ} (to : ℕ) (r : Bool) → Closes shows steps s n t all → IsAnyAnswer (λ y t. eqb y to ≡ t) all r → Decides r (Leads (joined_in (table_of s)) from to)
   closing {t} {n} {all} to r w c =
-      let d = contains_decides eqb Decides-eqb all to r c in (
+      let d = Decides-contains all to r (contains_decides eqb Decides-eqb all to r c) in (
         λ said. closed_sound shows steps table_of (λ s t st. st) s from is small inside t n all w to (d.0 said),
         λ l. d.1 (closed_full shows steps table_of (λ s t st. st) s from is small inside t n all w to l),
       )
