@@ -1,11 +1,8 @@
 -- What a gathering along the joins tells.
-use Rattle.std.proofs.Common.{◌≡◌, ℕ, ◌-◌, ◌<◌, Bool, true, eqb, List, [], ◌∷◌, length, take, Decides, sym, subst, arith}
-use Rattle.std.specs.List.{Contains as Has, IsAnyAnswer}
-use Rattle.std.specs.declared.convert.Infallible.{Infallible}
+use Rattle.std.proofs.Common.{◌≡◌, ℕ, ◌<◌, Bool, true, eqb, List, [], ◌∷◌, length, Decides}
+use Rattle.std.specs.List.{IsAnyAnswer}
 use Rattle.std.proofs.lemmas.List.Elements.{contains_decides, Decides-contains}
 use Rattle.gather.specs.Levels.{Closes, Bursts}
-use Rattle.gather.specs.declared.Halt.{Halt}
-use Rattle.gather.specs.declared.Halt.TheVariants.{Full}
 use Rattle.plan.specs.declared.plans.joining.Along.{Along}
 use Rattle.plan.specs.Joins.{joined_in, Leads}
 use Rattle.plan.specs.Routes.{Follows}

@@ -1,5 +1,5 @@
 -- Where joins lead: what the loop of `follow` keeps, and what a walk along the joins has seen.
-use Rattle.std.proofs.Common.{◌≡◌, ℕ, zero, suc, ◌+◌, ◌<◌, ◌≤◌, Bool, true, ◌≢◌, ◌⊎◌, List, [], ◌∷◌, ◌++◌, length, take, set, sym, refl, ap, ◌∙◌, subst, inl, inr, zero-add, arith}
+use Rattle.std.proofs.Common.{◌≡◌, ℕ, ◌+◌, ◌<◌, ◌≤◌, Bool, true, ◌≢◌, ◌⊎◌, List, [], ◌∷◌, ◌++◌, length, sym, refl, ap, ◌∙◌, subst, inl, inr, zero-add, arith}
 use Rattle.std.specs.List.{Contains as Has, range_with_len}
 use Rattle.std.proofs.lemmas.Bool.{cases_eq}
 use Rattle.std.proofs.lemmas.List.{length_push}
@@ -7,7 +7,7 @@ use Rattle.std.proofs.lemmas.List.FromFn.{length-range_with_len, get_or-range_wi
 use Rattle.std.proofs.lemmas.List.Elements.{Contains-append_left, Contains-append_right, Contains-append_cases, Contains-push, Contains-push_cases}
 use Rattle.gather.specs.Levels.{Walk, start, onward, Closes, Bursts}
 use Rattle.gather.proofs.Growing.{once_push}
-use Rattle.gather.proofs.Counting.{has_here, has_there, has_cases, once_fits}
+use Rattle.gather.proofs.Counting.{has_here, has_cases, once_fits}
 use Rattle.plan.specs.Joins.{joined_in, Chain, one, more, Leads}
 use Rattle.plan.specs.Routes.{Led, Follows}
 

@@ -1,9 +1,9 @@
 // Joins, and where they lead.
-ghost use Rattle.std.specs.Prelude.{◌≡◌, ◌↔◌, IsTrue, ℕ, ◌-◌, ◌<◌, ◌≤◌, true, Ok, Err, Decides, MatchResult};
+ghost use Rattle.std.specs.Prelude.{◌≡◌, ◌↔◌, IsTrue, ℕ, ◌-◌, ◌<◌, true, Ok, Err, Decides, MatchResult};
 ghost use Rattle.terms.specs.declared.handlers.Handler.{Handler};
 ghost use Rattle.plan.specs.Joins.{joined_in, Leads};
 ghost use Rattle.plan.specs.Routes.{Led, Follows};
-ghost use Rattle.plan.specs.Contents.{contents, Known};
+ghost use Rattle.plan.specs.Contents.{contents};
 ghost use Rattle.plan.specs.Calls.{MayJoin, Joins, Untouched};
 
 use crate::plans::Plan;
@@ -80,41 +80,19 @@ fn leads(joins: &[[bool; 64]; 64], from: u8, to: u8) -> bool
     }
 }
 
-fn timed_alike(first: Handler, second: Handler) -> bool
-    ensures { Decides result ((first.period ≡ second.period) × (first.offset ≡ second.offset)) }
-{
-    (first.period, first.offset) == (second.period, second.offset)
-}
-
 impl Plan {
-    // Whether the numbers are one, or joins lead from the second to the first.
-    fn leads_back(&self, a: u8, b: u8) -> bool
-        requires { (Known (contents self.now) a) × (Known (contents self.now) b) }
-        ensures { Decides result (Leads (joined_in self.now.joins) (b - 1) (a - 1)) }
-    {
-        leads(&self.joins, b - 1, a - 1)
-    }
-
     fn test_join(&self, a: u8, b: u8) -> Result<(), Refusal>
         ensures { MatchResult result (λ _. MayJoin (contents self.now) a b) (λ e. Joins (contents self.now) a b (Err e) (contents self.now)) }
     {
         let first = self.handler(a).ok_or(Refusal::NoSuchHandler)?;
         let second = self.handler(b).ok_or(Refusal::NoSuchHandler)?;
-        if !timed_alike(first, second) {
+        if (first.period, first.offset) != (second.period, second.offset) {
             return Err(Refusal::OtherTimes);
         }
-        if self.leads_back(a, b) {
+        if leads(&self.joins, b - 1, a - 1) {
             return Err(Refusal::Circle);
         }
         Ok(())
-    }
-
-    // Joins two handlers where no test refuses it.
-    fn link(&mut self, a: u8, b: u8)
-        requires { MayJoin (contents self.old) a b }
-        ensures { Joins (contents self.old) a b (Ok tt) (contents self.new) }
-    {
-        self.joins[a as usize - 1][b as usize - 1] = true;
     }
 
     /// Joins the handler of number `a` before that of number `b`: in each period `b` waits until `a` is done there.
@@ -123,7 +101,7 @@ impl Plan {
         ensures untouched { Untouched result self.old self.new }
     {
         self.test_join(a, b)?;
-        self.link(a, b);
+        self.joins[a as usize - 1][b as usize - 1] = true;
         Ok(())
     }
 }
