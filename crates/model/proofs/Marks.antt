@@ -1,8 +1,9 @@
 -- The round, the settling time and the mark times of a plan.
-use Rattle.std.proofs.Common.{◌≡◌, ℕ, suc, ◌+◌, ◌*◌, ◌<◌, ◌≤◌, subst, mul-le-mul_right, suc-mul, add-mul, mul-le-mul_left, arith}
+use Rattle.std.proofs.Common.{◌≡◌, ℕ, suc, ◌+◌, ◌*◌, ◌<◌, ◌≤◌, ◌∙◌, subst, mul-le-mul_right, suc-mul, add-mul, mul-le-mul_left, arith}
 use Prim.Native.Nat.{◌∣◌}
 use native.Mathlib.Decide.{dec_lt}
 use native.Mathlib.Nat.{dvd-mul_left_of_dvd}
+use Rattle.std.proofs.lemmas.List.{get_or_default}
 use Rattle.std.proofs.lemmas.List.Elements.{Contains-get_or}
 use Rattle.terms.specs.declared.handlers.Handler.{Handler}
 use Rattle.plan.specs.Rows.{blank, LeastRound}
@@ -11,7 +12,7 @@ use Rattle.plan.proofs.Rounds.{round_least, settling_greatest}
 use Rattle.model.specs.Runs.{mark}
 
 round_is : (p : Contents) → Sound p → LeastRound p.handlers (round p)
-round_is p ok = round_least p.handlers (λ h m. subst (λ (x : Handler). 1 ≤ x.period) (m.2 blank) (ok.ranges m.0 m.1).0)
+round_is p ok = round_least p.handlers (λ h m. subst (λ (x : Handler). 1 ≤ x.period) (get_or_default p.handlers m.0 blank h m.1 ∙ m.2) (ok.ranges m.0 m.1).0)
 
 pub round_some : (p : Contents) → Sound p → 1 ≤ round p
 round_some p ok = (round_is p ok).some
