@@ -1,3 +1,4 @@
 pub mod Counting
+pub mod Ending
 pub mod Growing
 pub mod Walking

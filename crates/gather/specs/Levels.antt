@@ -1,12 +1,12 @@
 -- Gathering: levels of elements, each of which leads to the next, and what was found in them.
 use Rattle.std.specs.Prelude.{◌≡◌, ℕ, ◌+◌, ◌<◌, ◌≤◌, Bool, ◌⊎◌, List, [], ◌++◌, length, take, drop, Decides, ◌≢◌, slice_index_or}
-use Rattle.std.specs.List.{ContainsAt as Has}
+use Rattle.std.specs.List.{Contains as Has}
 use Rattle.gather.specs.declared.Halt.{Halt}
 use Rattle.gather.specs.declared.Halt.TheVariants.{Full, Fault}
 
 -- a test that says whether two elements are one
-abbrev pub Tells : {A : Type 0} → (A → A → Bool → Type 0) → Type 0
-Tells {A} E = (x y : A) (r : Bool) → E x y r → Decides r (x ≡ y)
+abbrev pub Tells : {A : Type 0} → (A → A → Bool) → Type 0
+Tells {A} eq = (x y : A) → Decides (eq x y) (x ≡ y)
 
 -- no element stands twice
 abbrev pub Once : {A : Type 0} → List A → Type 0

@@ -1,18 +1,19 @@
 // Gathers what can be reached, level by level, until a level brings nothing new.
 #![tactic(auto)]
 
-ghost use Rattle.std.specs.Prelude.{◌≡◌, ◌≤◌, List, length, take, Decides, MatchOption, MatchResult};
+ghost use Rattle.std.specs.Prelude.{◌≡◌, ◌≤◌, List, [], ◌∷◌, length, take, Decides, MatchResult};
+ghost use Rattle.std.specs.List.{Contains as Has};
 ghost use Rattle.gather.specs.Levels.{Tells, Closes, Filled, Halted};
-ghost use Rattle.gather.specs.Growth.{Grown, Overfull};
-ghost use Rattle.std.proofs.Common.{rules};
+ghost use Rattle.gather.specs.Growth.{Absorbs};
+ghost use Rattle.std.proofs.lemmas.Bool.Decides.{Decides-eqb};
 
-/// Elements that `==` tells apart: two that it says are equal are one.
+/// Elements that `==` tells apart: two that it says are equal are one. Of `Eq` it is known only that it is an equivalence.
 pub trait Element: Copy + PartialEq {
-    ghost told: { Tells (λ x y r. Self.PartialEq.eq x y ≡ r) };
+    ghost told: { Tells Self.PartialEq.eq };
 }
 
 impl Element for u8 {
-    ghost told = { Prim.search rules };
+    ghost told = { Decides-eqb };
 }
 
 /// What comes next: a rule holds one level of elements, and can go on to the next.
@@ -58,56 +59,47 @@ pub enum Halt<F> {
     },
 }
 
-// Adds to the first `n` of `found` those of `level` that are not there, and answers how many are
-// then there, or nothing where there is no room.
-fn absorb<T: Element>(level: &[T], found: &mut [T], n: usize) -> Option<usize>
-    requires { n ≤ length found.old }
-    ensures { MatchOption result (Overfull (take n found.old) level.now found.new) (λ m. (n ≤ m) × Filled m found.new found.old (Grown (take n found.old) level.now)) }
-{
-    let mut n = n;
-    for x in level {
-        if !found[0..n].contains(x) {
-            if n == found.len() {
+// What was found: the first `count` of the lent rows.
+#[derive(Drop)]
+struct Found<'a, T> {
+    rows: &'a mut [T],
+    count: usize,
+    ghost fits: { count ≤ length rows.now },
+}
+
+impl<T: Element> Found<'_, T> {
+    fn contains(&self, element: &T) -> bool
+        ensures { Decides result (Has (take self.now.count self.now.rows.now) element.now) }
+    {
+        self.rows[..self.count].contains(element)
+    }
+
+    // Adds an element that was not found yet, or stops where there is no room for it.
+    fn insert(&mut self, element: &T) -> Option<()>
+        ensures same { self.new.rows.ghost_name ≡ self.old.rows.ghost_name }
+        ensures whole { length self.new.rows.now ≡ length self.old.rows.now }
+        ensures adds { Absorbs (element.now ∷ []) self.old.count self.old.rows.now result self.new.count self.new.rows.now }
+    {
+        if !self.contains(element) {
+            if self.count == self.rows.len() {
                 return None;
             }
-            found[n] = *x;
-            n += 1;
+            self.rows[self.count] = *element;
+            self.count += 1;
         }
+        Some(())
     }
-    Some(n)
-}
 
-// Whether a level brought nothing new.
-fn brought_nothing(before: usize, after: usize) -> bool
-    ensures { Decides result (after ≡ before) }
-{
-    after == before
-}
-
-// Gathers level after level, and answers how many brought something new, and how many elements were found.
-fn collect<R: Rule>(rule: &mut R, found: &mut [R::Item]) -> Result<(usize, usize), Halt<R::Fault>>
-    ensures { MatchResult result (λ o. Filled o.1 found.new found.old (Closes R.shows R.steps rule.old o.0 rule.new)) (Halted R.shows R.steps R.halts rule.old rule.new found.new found.old) }
-{
-    let mut count = 0;
-    let mut level = 0;
-    loop {
-        let Some(after) = absorb(rule.level(), found, count) else {
-            return Err(Halt::Full { level });
-        };
-        if brought_nothing(count, after) {
-            return Ok((level, count));
+    // Adds those of a level that were not found yet, or stops where there is no room for one.
+    fn absorb(&mut self, level: &[T]) -> Option<()>
+        ensures same { self.new.rows.ghost_name ≡ self.old.rows.ghost_name }
+        ensures whole { length self.new.rows.now ≡ length self.old.rows.now }
+        ensures adds { Absorbs level.now self.old.count self.old.rows.now result self.new.count self.new.rows.now }
+    {
+        for element in level {
+            self.insert(element)?;
         }
-        count = after;
-        match rule.advance() {
-            Ok(()) => level += 1,
-            Err(fault) => {
-                return Err(Halt::Fault {
-                    level,
-                    count,
-                    fault,
-                });
-            }
-        }
+        Some(())
     }
 }
 
@@ -115,8 +107,26 @@ fn collect<R: Rule>(rule: &mut R, found: &mut [R::Item]) -> Result<(usize, usize
 pub fn gather<R: Rule>(rule: &mut R, found: &mut [R::Item]) -> Result<Closed, Halt<R::Fault>>
     ensures { MatchResult result (λ o. Filled o.count found.new found.old (Closes R.shows R.steps rule.old o.levels rule.new)) (Halted R.shows R.steps R.halts rule.old rule.new found.new found.old) }
 {
-    let (levels, count) = collect(rule, found)?;
-    Ok(Closed { levels, count })
+    let mut found = Found {
+        rows: found,
+        count: 0,
+    };
+    let mut levels = 0;
+    loop {
+        let count = found.count;
+        found
+            .absorb(rule.level())
+            .ok_or_else(|| Halt::Full { level: levels })?;
+        if found.count == count {
+            return Ok(Closed { levels, count });
+        }
+        rule.advance().map_err(|fault| Halt::Fault {
+            level: levels,
+            count: found.count,
+            fault,
+        })?;
+        levels += 1;
+    }
 }
 
 #[cfg(test)]

@@ -2,7 +2,7 @@
 use Rattle.std.proofs.Common.{◌≡◌, ℕ, zero, suc, ◌+◌, ◌-◌, ◌<◌, ◌≤◌, ◌⊎◌, ◌↔◌, List, [], ◌∷◌, length, sym, refl, ◌∙◌, subst, inl, inr, arith}
 use mathlib.Core.Logic.Dec
 use native.Mathlib.Decide.{dec_le, dec_lt, dec_dvd, ℕ_discrete}
-use Rattle.std.specs.List.{range_with_len, ContainsAt as Has}
+use Rattle.std.specs.List.{range_with_len, Contains as Has}
 use Rattle.gather.specs.Levels.{Once}
 use Rattle.gather.proofs.Counting.{has_cases, once_fits}
 use Rattle.order.specs.Laws.{Choice}

@@ -1,7 +1,7 @@
 -- The states that a state steps to, and the states at a time, as lists.
 use Rattle.std.proofs.Common.{◌≡◌, ℕ, zero, suc, ◌+◌, ◌-◌, ◌<◌, ◌≤◌, ◌↔◌, List, [], ◌∷◌, map, length, sym, ◌∙◌, subst, zero-add, arith}
 use mathlib.Core.Logic.{ite, if_pos, if_neg}
-use Rattle.std.specs.List.{range_with_len, ContainsAt as Has}
+use Rattle.std.specs.List.{range_with_len, Contains as Has}
 use Rattle.gather.proofs.Counting.{has_here}
 use Rattle.order.specs.Laws.{Choice}
 use Rattle.plan.specs.Contents.{Contents, Sound, count, at}

@@ -2,13 +2,12 @@
 use Rattle.std.proofs.Common.{◌≡◌, ℕ, zero, suc, ◌+◌, ◌-◌, ◌<◌, ◌≤◌, ◌⊎◌, ◌↔◌, List, [], ◌∷◌, ◌++◌, map, length, get_or, sym, refl, ap, ◌∙◌, subst, inl, inr, add-zero, arith}
 use mathlib.Core.List.{List-discrete}
 use native.Mathlib.Decide.{ℕ_discrete}
-use Rattle.std.specs.List.{range_with_len, ContainsAt as Has}
+use Rattle.std.specs.List.{range_with_len, Contains as Has}
 use Rattle.std.proofs.lemmas.List.{get_or_default}
 use Rattle.std.proofs.lemmas.List.FromFn.{length-range_with_len, get_or-range_with_len}
-use Rattle.std.proofs.ByRecursion.{has_append_left, has_append_right}
+use Rattle.std.proofs.lemmas.List.Elements.{Contains-append_left, Contains-append_right, Contains-append_cases}
 use Rattle.gather.specs.Levels.{Once}
 use Rattle.gather.proofs.Counting.{has_here, has_there, has_cases}
-use Rattle.gather.proofs.Walking.{has_append_cases}
 
 module _ {X : Type 0} where
   pub has_none : (x : X) → Has [] x → ⊥
@@ -22,7 +21,7 @@ module _ {X : Type 0} where
 
   pub once_cons : (x : X) (xs : List X) → (Has xs x → ⊥) → Once xs → Once (x ∷ xs)
   once_cons x xs lacks o i zero d lt end e = absurd (omega arith)
-  once_cons x xs lacks o zero (suc j) d lt end e = let l : j < length xs = omega arith in lacks (j, l, λ f. get_or_default xs j f d l ∙ sym e)
+  once_cons x xs lacks o zero (suc j) d lt end e = let l : j < length xs = omega arith in lacks (j, l, get_or_default xs j x d l ∙ sym e)
   once_cons x xs lacks o (suc i) (suc j) d lt end e = o i j d (omega arith) (omega arith) e
 
   -- a test of each element: it holds of all, or fails at one
@@ -63,14 +62,14 @@ module _ {X Y : Type 0} where
   has_flat f x y [] h g = absurd (has_none x h)
   has_flat f x y (z ∷ l) h g =
       elim (has_cases z x l h) [
-        | inl e ↦ has_append_left (f z) (flat f l) y (subst (λ (a : X). Has (f a) y) (sym e) g)
-        | inr k ↦ has_append_right (f z) (flat f l) y (has_flat f x y l k g)
+        | inl e ↦ Contains-append_left (f z) (flat f l) y (subst (λ (a : X). Has (f a) y) (sym e) g)
+        | inr k ↦ Contains-append_right (f z) (flat f l) y (has_flat f x y l k g)
       ]
 
   pub has_flat_cases : (f : X → List Y) (y : Y) (l : List X) → Has (flat f l) y → (x : X) × Has l x × Has (f x) y
   has_flat_cases f y [] h = absurd (has_none y h)
   has_flat_cases f y (z ∷ l) h =
-      elim (has_append_cases (f z) (flat f l) y h) [
+      elim (Contains-append_cases (f z) (flat f l) y h) [
         | inl a ↦ (z, has_here z l, a)
         | inr b ↦ (let r = has_flat_cases f y l b in (r.0, has_there z r.0 l r.1, r.2))
       ]
@@ -80,12 +79,12 @@ module _ {X Y : Type 0} where
 pub has_counting : (a n x : ℕ) → a ≤ x → x < a + n → Has (range_with_len a n) x
 has_counting a n x l h =
     let k : x - a < n = omega arith in
-    (x - a, omega (arith, length-range_with_len a n), λ d. get_or-range_with_len a n (x - a) d k ∙ (let e : a + (x - a) ≡ x = omega arith in e))
+    (x - a, omega (arith, length-range_with_len a n), get_or-range_with_len a n (x - a) x k ∙ (let e : a + (x - a) ≡ x = omega arith in e))
 
 pub counting_has : (a n x : ℕ) → Has (range_with_len a n) x → (a ≤ x) × (x < a + n)
 counting_has a n x (k, h, e) =
     let l : k < n = omega (arith, length-range_with_len a n) in
-    let is : a + k ≡ x = sym (get_or-range_with_len a n k x l) ∙ e x in
+    let is : a + k ≡ x = sym (get_or-range_with_len a n k x l) ∙ e in
     (omega arith, omega arith)
 
 -- ---- one from each of several lists

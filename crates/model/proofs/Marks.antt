@@ -1,9 +1,10 @@
 -- The round, the settling time and the mark times of a plan.
-use Rattle.std.proofs.Common.{◌≡◌, ℕ, suc, ◌+◌, ◌*◌, ◌<◌, ◌≤◌, subst, mul-le-mul_right, suc-mul, add-mul, mul-le-mul_left, arith}
+use Rattle.std.proofs.Common.{◌≡◌, ℕ, suc, ◌+◌, ◌*◌, ◌<◌, ◌≤◌, ◌∙◌, subst, mul-le-mul_right, suc-mul, add-mul, mul-le-mul_left, arith}
 use Prim.Native.Nat.{◌∣◌}
 use native.Mathlib.Decide.{dec_lt}
 use native.Mathlib.Nat.{dvd-mul_left_of_dvd}
-use Rattle.std.proofs.ByRecursion.{has_get_or}
+use Rattle.std.proofs.lemmas.List.{get_or_default}
+use Rattle.std.proofs.lemmas.List.Elements.{Contains-get_or}
 use Rattle.terms.specs.declared.handlers.Handler.{Handler}
 use Rattle.plan.specs.Rows.{blank, LeastRound}
 use Rattle.plan.specs.Contents.{Contents, Sound, count, at, round, settling}
@@ -11,19 +12,19 @@ use Rattle.plan.proofs.Rounds.{round_least, settling_greatest}
 use Rattle.model.specs.Runs.{mark}
 
 round_is : (p : Contents) → Sound p → LeastRound p.handlers (round p)
-round_is p ok = round_least p.handlers (λ h m. subst (λ (x : Handler). 1 ≤ x.period) (m.2 blank) (ok.ranges m.0 m.1).0)
+round_is p ok = round_least p.handlers (λ h m. subst (λ (x : Handler). 1 ≤ x.period) (get_or_default p.handlers m.0 blank h m.1 ∙ m.2) (ok.ranges m.0 m.1).0)
 
 pub round_some : (p : Contents) → Sound p → 1 ≤ round p
 round_some p ok = (round_is p ok).some
 
 pub period_divides : (p : Contents) → Sound p → (i : ℕ) → i < count p → (at p i).period ∣ round p
-period_divides p ok i h = (round_is p ok).common (at p i) (has_get_or p.handlers i blank h)
+period_divides p ok i h = (round_is p ok).common (at p i) (Contains-get_or p.handlers i blank h)
 
 pub rounds_divide : (p : Contents) → Sound p → (k i : ℕ) → i < count p → (at p i).period ∣ k * round p
 rounds_divide p ok k i h = dvd-mul_left_of_dvd (at p i).period (period_divides p ok i h) k
 
 pub settled : (p : Contents) (i : ℕ) → i < count p → (at p i).offset ≤ settling p
-settled p i h = (settling_greatest p.handlers).above (at p i) (has_get_or p.handlers i blank h)
+settled p i h = (settling_greatest p.handlers).above (at p i) (Contains-get_or p.handlers i blank h)
 
 pub mark_later : (p : Contents) (i d : ℕ) → mark p (i + d) ≡ mark p i + d * round p
 mark_later p i d = let e : (i + d) * round p ≡ i * round p + d * round p = add-mul i d (round p) in omega arith

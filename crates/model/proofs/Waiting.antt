@@ -3,7 +3,7 @@ use Rattle.std.proofs.Common.{◌≡◌, ℕ, zero, suc, ◌+◌, ◌<◌, ◌�
 use mathlib.Core.Bool.{Bool-discrete}
 use mathlib.Core.Logic.Dec
 use native.Mathlib.Decide.{dec_lt}
-use Rattle.std.specs.List.{range_with_len, ContainsAt as Has}
+use Rattle.std.specs.List.{range_with_len, Contains as Has}
 use Rattle.std.proofs.lemmas.List.FromFn.{length-range_with_len}
 use Rattle.gather.specs.Levels.{Once}
 use Rattle.gather.proofs.Counting.{has_cases, once_fits}

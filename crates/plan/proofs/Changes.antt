@@ -1,7 +1,8 @@
 -- What a plan's fields say after a handler is added or seated anew, or two are joined.
-use Rattle.std.proofs.Common.{◌≡◌, ℕ, zero, suc, ◌+◌, ◌<◌, max, Bool, true, false, ◌&&◌, ◌||◌, eqb, ◌≢◌, ◌⊎◌, List, [], ◌∷◌, ◌++◌, length, get_or, take, set, sym, refl, ap, ◌∙◌, subst, inl, inr, arith}
+use Rattle.std.proofs.Common.{◌≡◌, ℕ, suc, ◌+◌, ◌<◌, max, Bool, true, false, ◌&&◌, ◌||◌, eqb, ◌≢◌, ◌⊎◌, List, [], ◌∷◌, ◌++◌, length, get_or, take, set, sym, ap, ◌∙◌, subst, inl, inr, arith}
 use mathlib.Core.Bool.{or-false}
 use Rattle.std.proofs.lemmas.Bool.{cases_eq, eq-eqb, ne_eqb, eqb-true, or_cases, or_right, and_parts, and_from, and_left, and_right}
+use Rattle.std.proofs.Math.Seq.{take-set-lt}
 use Rattle.std.proofs.lemmas.List.{get_or-set_same, get_or-set_other, get_or-take, get_or_default, take_more_set, length-set}
 use Rattle.std.proofs.lemmas.List.Sums.{fold_push}
 use Rattle.multiples.specs.Multiples.{lcm}
@@ -61,12 +62,6 @@ module _ (n : ℕ) (hs : List Handler) (h : Handler) (fits : n < length hs) wher
 
 -- ---- one handler on another core
 
-take_set_in : (n : ℕ) (hs : List Handler) (i : ℕ) (h : Handler) → i < n → take n (set hs i h) ≡ set (take n hs) i h
-take_set_in zero hs i h lt = absurd (omega arith)
-take_set_in (suc n) [] i h lt = refl
-take_set_in (suc n) (x ∷ hs) zero h lt = refl
-take_set_in (suc n) (x ∷ hs) (suc i) h lt = ap (λ l. x ∷ l) (take_set_in n hs i h (omega arith))
-
 module _ (hs : List Handler) (i : ℕ) (h : Handler) (fits : i < length hs) where
   -- a field that does not change
   pub seat_field : (f : Handler → ℕ) → f h ≡ f (get_or hs i blank) → (a : ℕ) → f (get_or (set hs i h) a blank) ≡ f (get_or hs a blank)
@@ -78,7 +73,7 @@ module _ (hs : List Handler) (i : ℕ) (h : Handler) (fits : i < length hs) wher
 
   module _ (n : ℕ) (lt : i < n) where
     pub seat_rows : take n (set hs i h) ≡ set (take n hs) i h
-    seat_rows = take_set_in n hs i h lt
+    seat_rows = take-set-lt n hs i h lt
 
     at_take : get_or (take n hs) i h ≡ get_or hs i blank
     at_take = get_or-take n hs i h lt ∙ get_or_default hs i h blank fits

@@ -2,7 +2,7 @@
 use Rattle.std.proofs.Common.{◌≡◌, ℕ, ◌<◌, ◌≤◌, false, List, [], length, get_or, take, sym, ap, ◌∙◌, subst, inl, inr, arith}
 use denote.Struct.Record.{values_one}
 use Rattle.std.proofs.lemmas.Bool.{cases_lt}
-use Rattle.std.proofs.lemmas.List.{get_or-take, length-take-le, ext_get_or}
+use Rattle.std.proofs.lemmas.List.{get_or_default, get_or-take, length-take-le, ext_get_or}
 use Rattle.terms.specs.declared.handlers.Handler.{Handler}
 use Rattle.plan.specs.declared.plans.Plan.{Plan}
 use Rattle.terms.specs.contracts.handlers.Handler.{the_row}
@@ -16,7 +16,7 @@ use Rattle.plan.specs.Contents.{Contents, contents, at, Sound, ContentsTell}
 pub recurring : (n : ℕ) (hs : List Handler) → n ≤ length hs → AllInRange n hs → Recurring (take n hs)
 recurring n hs le all h m =
     let lt : m.0 < n = omega (arith, m.1, length-take-le n hs le) in
-    subst (λ x. 1 ≤ x.period) (sym (get_or-take n hs m.0 blank lt) ∙ m.2 blank) (all m.0 lt).0
+    subst (λ x. 1 ≤ x.period) (sym (get_or-take n hs m.0 blank lt) ∙ get_or_default (take n hs) m.0 blank h m.1 ∙ m.2) (all m.0 lt).0
 
 module _ (p : Plan) where
   pub rows_length : length (take p.count p.handlers) ≡ p.count

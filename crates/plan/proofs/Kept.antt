@@ -11,7 +11,7 @@ use Rattle.plan.specs.Contents.{Contents, contents, at, round, empty}
 use Rattle.plan.specs.Calls.{added, Takes, with_join, MayJoin, seated, reseated, MaySeat}
 use Rattle.plan.proofs.Answered.{circle_from_leads}
 use Rattle.plan.proofs.Blanks.{blank_row, none_joined, not_joined, no_chain, all_wide}
-use Rattle.plan.proofs.Changes.{grow_rows, grow_ranges, grow_blanks, grow_round, grow_settling, grow_inside, grow_periods, grow_offsets, set_ranges, set_blanks, seat_field, seat_rows, seat_round, seat_settling, link_number, link_wide, link_inside, link_periods, link_offsets, link_straight}
+use Rattle.plan.proofs.Changes.{grow_ranges, grow_blanks, grow_round, grow_settling, grow_inside, grow_periods, grow_offsets, set_ranges, set_blanks, seat_field, seat_rows, seat_round, seat_settling, link_number, link_wide, link_inside, link_periods, link_offsets, link_straight}
 use Rattle.plan.proofs.Facts.{recurring, rows_length, at_is}
 use Rattle.plan.proofs.Rounds.{round_least, settling_greatest}
 
@@ -114,9 +114,6 @@ module _ (p : Plan) (h : Handler) (t : Takes (contents p) h) where
         tall = p.holds.tall;
         wide = p.holds.wide;
       })
-
-  pub register_contents : with_rows (joined_in p.joins) (take (p.count + 1) (set p.handlers p.count h)) ≡ added (contents p) h
-  register_contents = ap (with_rows (joined_in p.joins)) (grow_rows p.count p.handlers h fits)
 
 -- ---- join
 

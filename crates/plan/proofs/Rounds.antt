@@ -2,7 +2,7 @@
 use Rattle.std.proofs.Common.{◌≡◌, ℕ, zero, suc, ◌*◌, ◌≤◌, max, ◌⊎◌, List, [], ◌∷◌, get_or, set, fold, sym, refl, ap, ◌∙◌, subst, inl, inr, le_trans, mul-pos, arith}
 use Prim.Native.Nat.{◌∣◌}
 use native.Mathlib.Nat.{le_of_dvd, pos_of_dvd_of_pos, dvd_trans, dvd_refl, dvd-mul_left, dvd-mul_right, one-dvd, le-max_left, le-max_right, max-eq_left, max-eq_right}
-use Rattle.std.specs.List.{ContainsAt as Has}
+use Rattle.std.specs.List.{Contains as Has}
 use Rattle.std.proofs.lemmas.Bool.{cases_lt}
 use Rattle.gather.proofs.Counting.{has_here, has_there, has_cases}
 use Rattle.multiples.specs.Multiples.{lcm}

@@ -1,50 +1,53 @@
 -- Where joins lead: what the loop of `follow` keeps, and what a walk along the joins has seen.
-use Rattle.std.proofs.Common.{◌≡◌, ℕ, zero, suc, ◌+◌, ◌<◌, ◌≤◌, Bool, true, ◌≢◌, ◌⊎◌, List, [], ◌∷◌, ◌++◌, length, take, set, sym, refl, ap, ◌∙◌, subst, inl, inr, arith}
-use Rattle.std.specs.List.{ContainsAt as Has}
+use Rattle.std.proofs.Common.{◌≡◌, ℕ, ◌+◌, ◌<◌, ◌≤◌, Bool, true, ◌≢◌, ◌⊎◌, List, [], ◌∷◌, ◌++◌, length, sym, refl, ap, ◌∙◌, subst, inl, inr, zero-add, arith}
+use Rattle.std.specs.List.{Contains as Has, range_with_len}
 use Rattle.std.proofs.lemmas.Bool.{cases_eq}
-use Rattle.std.proofs.lemmas.List.{take_more_set, length-set, length_push}
-use Rattle.std.proofs.ByRecursion.{has_append_left, has_append_right, has_push, has_push_cases}
+use Rattle.std.proofs.lemmas.List.{length_push}
+use Rattle.std.proofs.lemmas.List.FromFn.{length-range_with_len, get_or-range_with_len}
+use Rattle.std.proofs.lemmas.List.Elements.{Contains-append_left, Contains-append_right, Contains-append_cases, Contains-push, Contains-push_cases}
 use Rattle.gather.specs.Levels.{Walk, start, onward, Closes, Bursts}
 use Rattle.gather.proofs.Growing.{once_push}
-use Rattle.gather.proofs.Walking.{has_append_cases}
-use Rattle.gather.proofs.Counting.{has_here, has_there, has_cases, once_fits}
+use Rattle.gather.proofs.Counting.{has_here, has_cases, once_fits}
 use Rattle.plan.specs.Joins.{joined_in, Chain, one, more, Leads}
 use Rattle.plan.specs.Routes.{Led, Follows}
 
 -- ---- the loop of `follow`
 
--- the first n of `next` are the places below b that `from` leads to
-abbrev pub Got : List (List Bool) → List ℕ → ℕ → ℕ → List ℕ → Type 0
-Got table from b n next =
-    (n ≤ b) × (length next ≡ 64) × ((z : ℕ) → Has (take n next) z → Led table from z) × ((z : ℕ) → z < b → Led table from z → Has (take n next) z)
+-- a place that is joined before `b`, and that one such is there
+led_by : (table : List (List Bool)) (from : List ℕ) (b : ℕ) → (l : Led table from b) → Has from l.1
+led_by table from b l = (l.0, l.2, l.3)
 
-module _ (table : List (List Bool)) (from : List ℕ) (b n : ℕ) (next : List ℕ) (lt : b < 64) (got : Got table from b n next) where
-  got_push_at : Led table from b → Got table from (b + 1) (n + 1) (set next n b)
-  got_push_at led =
-      let e : take (n + 1) (set next n b) ≡ take n next ++ b ∷ [] = take_more_set next n b (omega (arith, got.0, got.1)) in (
-        omega (arith, got.0),
-        length-set next n b ∙ got.1,
-        (λ z h. elim (has_push_cases (take n next) b z (subst (λ l. Has l z) e h)) [ inl k ↦ got.2 z k | inr q ↦ subst (Led table from) q led ]),
-        (λ z l led'. subst (λ l. Has l z) (sym e)
-            (elim (cases_eq b z) [
-              | inl q ↦ subst (Has (take n next ++ b ∷ [])) q (has_push (take n next) b)
-              | inr ne ↦ has_append_left (take n next) (b ∷ []) z (got.3 z (let d : z ≢ b = λ w. ne (sym w) in omega (arith, l, d)) led')
-            ])),
-      )
+led_at : (table : List (List Bool)) (from : List ℕ) (a b : ℕ) → Has from a → joined_in table a b ≡ true → Led table from b
+led_at table from a b h j = (h.0, a, h.1, h.2, j)
 
-  pub got_push : (n' : ℕ) (next' : List ℕ) → n' ≡ n + 1 → next' ≡ set next n b → Led table from b → Got table from (b + 1) n' next'
-  got_push n' next' en ex led = subst (λ k. Got table from (b + 1) k next') (sym en) (subst (λ l. Got table from (b + 1) (n + 1) l) (sym ex) (got_push_at led))
+-- `next` are the places below b that `from` leads to
+pub record Got (table : List (List Bool)) (from : List ℕ) (b : ℕ) (next : List ℕ) : Type 0 where
+  pub short : length next ≤ b
+  pub sound : (z : ℕ) → Has next z → Led table from z
+  pub full : (z : ℕ) → z < b → Led table from z → Has next z
 
-  got_skip_at : (Led table from b → ⊥) → Got table from (b + 1) n next
-  got_skip_at lacks = (
-    omega (arith, got.0),
-    got.1,
-    got.2,
-    λ z l led. elim (cases_eq b z) [ inl q ↦ absurd (lacks (subst (Led table from) (sym q) led)) | inr ne ↦ got.3 z (let d : z ≢ b = λ w. ne (sym w) in omega (arith, l, d)) led ],
-  )
+module _ {table : List (List Bool)} {from : List ℕ} {b : ℕ} {next : List ℕ} (got : Got table from b next) where
+  pub got_push : Led table from b → Got table from (b + 1) (next ++ b ∷ [])
+  got_push led = record {
+    short = omega (arith, length_push next b, got.short);
+    sound = λ z h. elim (Contains-push_cases next b z h) [ inl k ↦ got.sound z k | inr e ↦ subst (Led table from) e led ];
+    full = λ z l led'.
+        elim (cases_eq b z) [
+          | inl e ↦ subst (Has (next ++ b ∷ [])) e (Contains-push next b)
+          | inr ne ↦ Contains-append_left next (b ∷ []) z (got.full z (let d : z ≢ b = λ w. ne (sym w) in omega (arith, l, d)) led')
+        ];
+  }
 
-  pub got_skip : (n' : ℕ) (next' : List ℕ) → n' ≡ n → next' ≡ next → (Led table from b → ⊥) → Got table from (b + 1) n' next'
-  got_skip n' next' en ex lacks = subst (λ k. Got table from (b + 1) k next') (sym en) (subst (λ l. Got table from (b + 1) n l) (sym ex) (got_skip_at lacks))
+  pub got_skip : (Led table from b → ⊥) → Got table from (b + 1) next
+  got_skip lacks = record {
+    short = omega (arith, got.short);
+    sound = got.sound;
+    full = λ z l led.
+        elim (cases_eq b z) [
+          | inl e ↦ absurd (lacks (subst (Led table from) (sym e) led))
+          | inr ne ↦ got.full z (let d : z ≢ b = λ w. ne (sym w) in omega (arith, l, d)) led
+        ];
+  }
 
 -- ---- chains
 
@@ -58,22 +61,9 @@ leads_more joined a b c (inr p) j = inr (chain_more p j)
 
 -- ---- what a walk along the joins has seen
 
--- the places below n
-abbrev places : ℕ → List ℕ
-places zero = []
-places (suc n) = n ∷ places n
-
-places_length : (n : ℕ) → length (places n) ≡ n
-places_length zero = refl
-places_length (suc n) = ap suc (places_length n)
-
-has_places : (n x : ℕ) → x < n → Has (places n) x
-has_places zero x l = absurd (omega arith)
-has_places (suc n) x l =
-    elim (cases_eq n x) [
-      | inl e ↦ subst (Has (n ∷ places n)) e (has_here n (places n))
-      | inr ne ↦ has_there n x (places n) (has_places n x (let d : x ≢ n = λ w. ne (sym w) in omega (arith, d)))
-    ]
+-- the places below n are n
+has_place : (n x : ℕ) → x < n → Has (range_with_len 0 n) x
+has_place n x lt = (x, omega (arith, lt, length-range_with_len 0 n), get_or-range_with_len 0 n x x lt ∙ zero-add x)
 
 module _ {S : Type 0} (shows : S → List ℕ) (steps : S → S → Type 0) (table_of : S → List (List Bool))
     (step : (s t : S) → steps s t → (table_of t ≡ table_of s) × Follows (table_of s) (shows s) (shows t)) where
@@ -87,25 +77,25 @@ module _ {S : Type 0} (shows : S → List ℕ) (steps : S → S → Type 0) (tab
   walk_all P on first start = (λ x h. absurd (omega (arith, h.1)), first)
   walk_all P on first (onward {s} {t} {u} {level} {seen} w f st) =
       let ih = walk_all P on first w in (
-        λ x h. elim (has_append_cases seen (shows t) x h) [ inl k ↦ ih.0 x k | inr k ↦ ih.1 x k ],
+        λ x h. elim (Contains-append_cases seen (shows t) x h) [ inl k ↦ ih.0 x k | inr k ↦ ih.1 x k ],
         λ x h.
             let led = (step t u st).1.sound x h in
-            on led.0 x (ih.1 led.0 led.1) (ap (λ js. joined_in js led.0 x) (sym (walk_table w)) ∙ led.2),
+            on led.1 x (ih.1 led.1 (led_by _ _ x led)) (ap (λ js. joined_in js led.1 x) (sym (walk_table w)) ∙ led.4),
       )
 
   -- where a join leads from what was seen is seen too, or is on the level at hand
   walk_full : {s t : S} {n : ℕ} {seen : List ℕ} → Walk shows steps s n seen t → (x y : ℕ) → y < 64 → Has seen x → joined_in (table_of s) x y ≡ true → Has seen y ⊎ Has (shows t) y
   walk_full start x y lt h j = absurd (omega (arith, h.1))
   walk_full (onward {s} {t} {u} {level} {seen} w f st) x y lt h j =
-      elim (has_append_cases seen (shows t) x h) [
-        | inl k ↦ (elim (walk_full w x y lt k j) [ inl m ↦ inl (has_append_left seen (shows t) y m) | inr m ↦ inl (has_append_right seen (shows t) y m) ])
-        | inr k ↦ inr ((step t u st).1.full y lt (x, k, ap (λ js. joined_in js x y) (walk_table w) ∙ j))
+      elim (Contains-append_cases seen (shows t) x h) [
+        | inl k ↦ (elim (walk_full w x y lt k j) [ inl m ↦ inl (Contains-append_left seen (shows t) y m) | inr m ↦ inl (Contains-append_right seen (shows t) y m) ])
+        | inr k ↦ inr ((step t u st).1.full y lt (led_at _ _ x y k (ap (λ js. joined_in js x y) (walk_table w) ∙ j)))
       ]
 
   walk_first : {s t : S} {n : ℕ} {seen : List ℕ} → Walk shows steps s n seen t → (x : ℕ) → Has (shows s) x → Has seen x ⊎ Has (shows t) x
   walk_first start x h = inr h
   walk_first (onward {s} {t} {u} {level} {seen} w f st) x h =
-      elim (walk_first w x h) [ inl k ↦ inl (has_append_left seen (shows t) x k) | inr k ↦ inl (has_append_right seen (shows t) x k) ]
+      elim (walk_first w x h) [ inl k ↦ inl (Contains-append_left seen (shows t) x k) | inr k ↦ inl (Contains-append_right seen (shows t) x k) ]
 
   module _ (s : S) (from : ℕ) (is : shows s ≡ from ∷ []) (small : from < 64) (inside : (x y : ℕ) → joined_in (table_of s) x y ≡ true → y < 64) where
     first : (x : ℕ) → Has (shows s) x → from ≡ x
@@ -140,7 +130,7 @@ module _ {S : Type 0} (shows : S → List ℕ) (steps : S → S → Type 0) (tab
     no_burst t n all len w =
         let a = walk_all (λ x. x < 64) (λ x y l j. inside x y j) (λ x h. subst (λ y. y < 64) (first x h) small) w.walk in
         let low : (x : ℕ) → Has all x → x < 64 = λ x h. elim (w.only x h) [ inl k ↦ a.0 x k | inr k ↦ a.1 x k ] in
-        let in_all : (x : ℕ) → Has (all ++ w.extra ∷ []) x → Has (places 64) x = λ x h.
-        has_places 64 x (elim (has_push_cases all w.extra x h) [ inl k ↦ low x k | inr e ↦ subst (λ y. y < 64) e (a.1 w.extra w.there) ]) in
-        let fits : length (all ++ w.extra ∷ []) ≤ length (places 64) = once_fits (all ++ w.extra ∷ []) (places 64) (once_push all w.extra w.once w.lacks) in_all in
-        omega (arith, fits, length_push all w.extra, places_length 64, len)
+        let in_all : (x : ℕ) → Has (all ++ w.extra ∷ []) x → Has (range_with_len 0 64) x = λ x h.
+        has_place 64 x (elim (Contains-push_cases all w.extra x h) [ inl k ↦ low x k | inr e ↦ subst (λ y. y < 64) e (a.1 w.extra w.there) ]) in
+        let fits : length (all ++ w.extra ∷ []) ≤ length (range_with_len 0 64) = once_fits (all ++ w.extra ∷ []) (range_with_len 0 64) (once_push all w.extra w.once w.lacks) in_all in
+        omega (arith, fits, length_push all w.extra, length-range_with_len 0 64, len)

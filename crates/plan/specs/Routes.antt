@@ -1,11 +1,11 @@
 -- Going along the joins, level by level.
-use Rattle.std.specs.Prelude.{◌≡◌, ℕ, ◌<◌, Bool, true, List}
-use Rattle.std.specs.List.{ContainsAt as Has}
+use Rattle.std.specs.Prelude.{◌≡◌, ℕ, ◌<◌, Bool, true, List, Any}
+use Rattle.std.specs.List.{Contains as Has}
 use Rattle.plan.specs.Joins.{joined_in}
 
 -- some place of `from` is joined before `to`
 abbrev pub Led : List (List Bool) → List ℕ → ℕ → Type 0
-Led table from to = (a : ℕ) × Has from a × (joined_in table a to ≡ true)
+Led table from to = Any (λ a. joined_in table a to ≡ true) from
 
 -- `next` are the places that some place of `from` is joined before
 pub record Follows (table : List (List Bool)) (from next : List ℕ) : Type 0 where

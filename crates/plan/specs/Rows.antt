@@ -1,7 +1,7 @@
 -- Handlers in a row: their ranges, the round and the settling time.
 use Rattle.std.specs.Prelude.{◌≡◌, ℕ, ◌<◌, ◌≤◌, max, List, fold, slice_index_or}
 use Rattle.std.specs.Int.{◌∣◌}
-use Rattle.std.specs.List.{ContainsAt as Has}
+use Rattle.std.specs.List.{Contains as Has}
 use Rattle.multiples.specs.Multiples.{lcm}
 use Rattle.terms.specs.declared.handlers.Handler.{Handler}
 

@@ -10,6 +10,7 @@ mod seating;
 
 /// Handlers, at most 64 of them, each with the number that its registering answered; and joins, by which one handler
 /// waits in each period for another to be done. The memory is the caller's, and there is no more of it than this.
+// Arrays beside a count, and no list: their memory is fixed, and `untouched` speaks of every byte after a refusal.
 #[derive(Drop)]
 pub struct Plan {
     count: u8,

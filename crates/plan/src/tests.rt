@@ -13,61 +13,61 @@ enum Call {
     Reseat(u8, u8),
 }
 
-// Calls made one after another, each with the number of its refusal, or 0 where it is accepted.
-const CALLS: [(Call, u8); 47] = [
+// Calls made one after another, each with the number of its refusal, or `None` where it is accepted.
+const CALLS: [(Call, Option<u8>); 47] = [
     // each field at its edges
-    (Call::New, 0),
-    (Call::Register(0, 3, 1, 2, 1), 2),
-    (Call::Register(10, 3, 0, 2, 1), 3),
-    (Call::Register(10, 3, 3, 2, 1), 3),
-    (Call::Register(10, 3, 1, 2, 0), 4),
-    (Call::Register(10, 3, 1, 2, 9), 4),
-    (Call::Register(1, 0, 1, 1, 1), 0),
-    (Call::Register(65535, 65535, 65535, 65535, 8), 0),
+    (Call::New, None),
+    (Call::Register(0, 3, 1, 2, 1), Some(2)),
+    (Call::Register(10, 3, 0, 2, 1), Some(3)),
+    (Call::Register(10, 3, 3, 2, 1), Some(3)),
+    (Call::Register(10, 3, 1, 2, 0), Some(4)),
+    (Call::Register(10, 3, 1, 2, 9), Some(4)),
+    (Call::Register(1, 0, 1, 1, 1), None),
+    (Call::Register(65535, 65535, 65535, 65535, 8), None),
     // the first test that holds is answered
-    (Call::Register(0, 0, 0, 0, 0), 2),
-    (Call::Register(65534, 0, 0, 0, 0), 3),
-    (Call::Register(65534, 0, 1, 1, 0), 4),
-    (Call::Register(65534, 0, 1, 1, 1), 5),
+    (Call::Register(0, 0, 0, 0, 0), Some(2)),
+    (Call::Register(65534, 0, 0, 0, 0), Some(3)),
+    (Call::Register(65534, 0, 1, 1, 0), Some(4)),
+    (Call::Register(65534, 0, 1, 1, 1), Some(5)),
     // no 16-bit periods have the round 16,777,216, a power of two: 4095 × 4097 is one less, 673 × 24929 one more
-    (Call::New, 0),
-    (Call::Register(4095, 0, 1, 1, 1), 0),
-    (Call::Register(4097, 0, 1, 1, 1), 0),
-    (Call::Register(2, 0, 1, 1, 1), 5),
-    (Call::New, 0),
-    (Call::Register(673, 0, 1, 1, 1), 0),
-    (Call::Register(24929, 0, 1, 1, 1), 5),
+    (Call::New, None),
+    (Call::Register(4095, 0, 1, 1, 1), None),
+    (Call::Register(4097, 0, 1, 1, 1), None),
+    (Call::Register(2, 0, 1, 1, 1), Some(5)),
+    (Call::New, None),
+    (Call::Register(673, 0, 1, 1, 1), None),
+    (Call::Register(24929, 0, 1, 1, 1), Some(5)),
     // joins need two handlers of one timing
-    (Call::New, 0),
-    (Call::Register(10, 3, 1, 2, 1), 0),
-    (Call::Register(10, 3, 1, 2, 2), 0),
-    (Call::Register(10, 3, 1, 2, 3), 0),
-    (Call::Register(20, 3, 1, 2, 1), 0),
-    (Call::Register(10, 4, 1, 2, 1), 0),
-    (Call::Join(0, 1), 6),
-    (Call::Join(6, 1), 6),
-    (Call::Join(1, 0), 6),
-    (Call::Join(1, 6), 6),
-    (Call::Join(1, 4), 7),
-    (Call::Join(5, 1), 7),
+    (Call::New, None),
+    (Call::Register(10, 3, 1, 2, 1), None),
+    (Call::Register(10, 3, 1, 2, 2), None),
+    (Call::Register(10, 3, 1, 2, 3), None),
+    (Call::Register(20, 3, 1, 2, 1), None),
+    (Call::Register(10, 4, 1, 2, 1), None),
+    (Call::Join(0, 1), Some(6)),
+    (Call::Join(6, 1), Some(6)),
+    (Call::Join(1, 0), Some(6)),
+    (Call::Join(1, 6), Some(6)),
+    (Call::Join(1, 4), Some(7)),
+    (Call::Join(5, 1), Some(7)),
     // circles of one, two and three; a join made again
-    (Call::Join(1, 1), 8),
-    (Call::Join(1, 2), 0),
-    (Call::Join(1, 2), 0),
-    (Call::Join(2, 1), 8),
-    (Call::Join(2, 3), 0),
-    (Call::Join(3, 1), 8),
-    (Call::Join(1, 3), 0),
+    (Call::Join(1, 1), Some(8)),
+    (Call::Join(1, 2), None),
+    (Call::Join(1, 2), None),
+    (Call::Join(2, 1), Some(8)),
+    (Call::Join(2, 3), None),
+    (Call::Join(3, 1), Some(8)),
+    (Call::Join(1, 3), None),
     // other cores
-    (Call::Reseat(0, 9), 6),
-    (Call::Reseat(6, 9), 6),
-    (Call::Reseat(5, 0), 4),
-    (Call::Reseat(5, 9), 4),
-    (Call::Reseat(5, 8), 0),
-    (Call::Reseat(5, 8), 0),
-    (Call::Reseat(1, 1), 0),
-    (Call::Join(3, 2), 8),
-    (Call::Join(5, 5), 8),
+    (Call::Reseat(0, 9), Some(6)),
+    (Call::Reseat(6, 9), Some(6)),
+    (Call::Reseat(5, 0), Some(4)),
+    (Call::Reseat(5, 9), Some(4)),
+    (Call::Reseat(5, 8), None),
+    (Call::Reseat(5, 8), None),
+    (Call::Reseat(1, 1), None),
+    (Call::Join(3, 2), Some(8)),
+    (Call::Join(5, 5), Some(8)),
 ];
 
 fn make(plan: &mut Plan, call: Call) -> Result<(), Refusal> {
@@ -88,19 +88,16 @@ fn make(plan: &mut Plan, call: Call) -> Result<(), Refusal> {
     Ok(())
 }
 
-// The number of the call's refusal, or 0 where it is accepted.
-fn answer(plan: &mut Plan, call: Call) -> u8 {
-    match make(plan, call) {
-        Ok(()) => 0,
-        Err(refusal) => refusal.number(),
-    }
+// The number of the call's refusal, or `None` where it is accepted.
+fn answer(plan: &mut Plan, call: Call) -> Option<u8> {
+    make(plan, call).err().map(|refusal| refusal.number())
 }
 
 #[test]
 fn calls_answer_the_first_test_that_holds(rt: HostRuntime) {
     let mut plan = Plan::new();
-    for (call, number) in CALLS.iter() {
-        assert_eq!(rt; answer(&mut plan, *call), *number);
+    for (call, number) in CALLS {
+        assert_eq!(rt; answer(&mut plan, call), number);
     }
 }
 
@@ -120,7 +117,7 @@ fn chain_of(count: u8) -> Result<Plan, Refusal> {
 fn the_65th_handler_is_refused_before_all_else(rt: HostRuntime) -> Result<(), Fail> {
     let mut plan = chain_of(64)?;
     assert_eq!(rt; plan.count(), 64);
-    assert_eq!(rt; answer(&mut plan, Call::Register(0, 0, 0, 0, 0)), 1);
+    assert_eq!(rt; answer(&mut plan, Call::Register(0, 0, 0, 0, 0)), Some(1));
     assert_eq!(rt; plan.count(), 64);
     Ok(())
 }
@@ -128,8 +125,8 @@ fn the_65th_handler_is_refused_before_all_else(rt: HostRuntime) -> Result<(), Fa
 #[test]
 fn a_circle_of_64_is_refused(rt: HostRuntime) -> Result<(), Fail> {
     let mut plan = chain_of(64)?;
-    assert_eq!(rt; answer(&mut plan, Call::Join(64, 1)), 8);
-    assert_eq!(rt; answer(&mut plan, Call::Join(1, 64)), 0);
+    assert_eq!(rt; answer(&mut plan, Call::Join(64, 1)), Some(8));
+    assert_eq!(rt; answer(&mut plan, Call::Join(1, 64)), None);
     assert!(rt; plan.joined(1, 64) && !plan.joined(64, 1));
     Ok(())
 }
@@ -139,8 +136,8 @@ fn readings_follow_the_calls(rt: HostRuntime) -> Result<(), Fail> {
     let mut plan = Plan::new();
     assert_eq!(rt; plan.round(), 1);
     assert_eq!(rt; plan.settling(), 0);
-    for (call, _number) in CALLS.iter() {
-        answer(&mut plan, *call);
+    for (call, _number) in CALLS {
+        answer(&mut plan, call);
     }
     assert_eq!(rt; plan.count(), 5);
     assert_eq!(rt; plan.round(), 20);

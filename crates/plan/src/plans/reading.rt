@@ -13,10 +13,10 @@ impl Plan {
         ensures test { is_some result ≡ known (contents self.now) number }
         ensures placed { IfSome result (λ i. Placed self.now number i) }
     {
-        if number == 0 || number > self.count() {
-            return None;
-        }
-        Some(number as usize - 1)
+        number
+            .checked_sub(1)
+            .filter(|place| *place < self.count)
+            .map(usize::from)
     }
 
     /// How many handlers there are.

@@ -1,13 +1,12 @@
 // New plans, and new handlers.
-ghost use Rattle.std.specs.Prelude.{◌≡◌, ◌+◌, false, List, replicate, IfOk, Ok, Err, MatchResult};
-ghost use Rattle.multiples.specs.Multiples.{lcm, within};
-ghost use Rattle.plan.specs.Rows.{blank, longest_round};
+ghost use Rattle.std.specs.Prelude.{◌≡◌, ◌+◌, List, IfOk, Ok, Err, MatchResult};
 ghost use Rattle.plan.specs.Contents.{contents, empty, round, ContentsTell, AllSound};
 ghost use Rattle.plan.specs.Calls.{accepts, field_tests, added, Takes, Registers, Untouched, OneAnswer};
 ghost use Rattle.plan.specs.Histories.{Call, After, accepted};
 
 use crate::plans::Plan;
 use multiples::least_common_multiple;
+use order::cores::Core;
 use terms::handlers::Handler;
 use terms::refusals::Refusal;
 
@@ -18,17 +17,13 @@ const MOST_HANDLERS: u8 = 64;
 const LONGEST_ROUND: u32 = 16_777_216;
 
 // What stands in the rows past the last handler.
-fn blank_row() -> Handler
-    ensures { result ≡ blank }
-{
-    Handler {
-        period: 0,
-        offset: 0,
-        shortest: 0,
-        longest: 0,
-        core: 0,
-    }
-}
+const BLANK: Handler = Handler {
+    period: 0,
+    offset: 0,
+    shortest: 0,
+    longest: 0,
+    core: 0,
+};
 
 fn test_fields(handler: Handler) -> Result<(), Refusal>
     ensures { field_tests handler (accepts tt) result }
@@ -39,23 +34,13 @@ fn test_fields(handler: Handler) -> Result<(), Refusal>
     if handler.shortest == 0 || handler.shortest > handler.longest {
         return Err(Refusal::NoTimes);
     }
-    if handler.core == 0 || handler.core > 8 {
-        return Err(Refusal::NoSuchCore);
-    }
+    Core::new(handler.core).ok_or(Refusal::NoSuchCore)?;
     Ok(())
 }
 
-// The round with one more period, unless it is too long.
-fn longer_round(round: u32, period: u16) -> Option<u32>
-    ensures { result ≡ within longest_round (lcm round period) }
-{
-    least_common_multiple(round, period as u32, LONGEST_ROUND)
-}
-
 impl Plan {
-    // A plan of blank rows and no joins.
-    fn of_blanks(handlers: [Handler; 64], joins: [[bool; 64]; 64]) -> Plan
-        requires { (handlers ≡ replicate 64 blank) × (joins ≡ replicate 64 (replicate 64 false)) }
+    /// A plan with no handler.
+    pub fn new() -> Plan
         ensures holds { contents result ≡ empty }
         ensures tell { ContentsTell }
         ensures one { OneAnswer }
@@ -65,19 +50,9 @@ impl Plan {
             count: 0,
             round: 1,
             settling: 0,
-            handlers,
-            joins,
+            handlers: [BLANK; 64],
+            joins: [[false; 64]; 64],
         }
-    }
-
-    /// A plan with no handler.
-    pub fn new() -> Plan
-        ensures holds { contents result ≡ empty }
-        ensures tell { ContentsTell }
-        ensures one { OneAnswer }
-        ensures sound { AllSound }
-    {
-        Plan::of_blanks([blank_row(); 64], [[false; 64]; 64])
     }
 
     // The round with this handler added, if no test refuses it.
@@ -88,26 +63,8 @@ impl Plan {
             return Err(Refusal::PlanFull);
         }
         test_fields(handler)?;
-        longer_round(self.round, handler.period).ok_or(Refusal::LongRound)
-    }
-
-    // Adds a handler that no test refuses, and answers its number.
-    fn add(&mut self, handler: Handler, longer: u32) -> u8
-        requires takes { Takes (contents self.old) handler }
-        requires round { longer ≡ round (added (contents self.old) handler) }
-        ensures registers { Registers (contents self.old) handler (Ok result) (contents self.new) }
-        ensures nth { (calls : List Call) → After calls (contents self.old) → result ≡ accepted calls + 1 }
-    {
-        let mut handlers = self.handlers;
-        handlers[self.count as usize] = handler;
-        *self = Plan {
-            count: self.count + 1,
-            round: longer,
-            settling: self.settling.max(handler.offset),
-            handlers,
-            joins: self.joins,
-        };
-        self.count
+        let longer = least_common_multiple(self.round, handler.period.into(), LONGEST_ROUND);
+        longer.ok_or(Refusal::LongRound)
     }
 
     /// Adds a handler at the end, and answers its number.
@@ -116,7 +73,10 @@ impl Plan {
         ensures untouched { Untouched result self.old self.new }
         ensures nth { (calls : List Call) → After calls (contents self.old) → IfOk result (λ n. n ≡ accepted calls + 1) }
     {
-        let longer = self.round_with(handler)?;
-        Ok(self.add(handler, longer))
+        self.round = self.round_with(handler)?;
+        self.settling = self.settling.max(handler.offset);
+        self.handlers[self.count as usize] = handler;
+        self.count += 1;
+        Ok(self.count)
     }
 }

@@ -4,35 +4,16 @@ ghost use Rattle.plan.specs.Contents.{contents};
 ghost use Rattle.plan.specs.Calls.{MaySeat, Reseats, Untouched};
 
 use crate::plans::Plan;
+use order::cores::Core;
 use terms::refusals::Refusal;
 
 impl Plan {
     fn test_seat(&self, number: u8, core: u8) -> Result<(), Refusal>
         ensures { MatchResult result (λ _. MaySeat (contents self.now) number core) (λ e. Reseats (contents self.now) number core (Err e) (contents self.now)) }
     {
-        if self.handler(number).is_none() {
-            return Err(Refusal::NoSuchHandler);
-        }
-        if core == 0 || core > 8 {
-            return Err(Refusal::NoSuchCore);
-        }
+        self.handler(number).ok_or(Refusal::NoSuchHandler)?;
+        Core::new(core).ok_or(Refusal::NoSuchCore)?;
         Ok(())
-    }
-
-    // Gives the handler of this number a core, where no test refuses it.
-    fn seat(&mut self, number: u8, core: u8)
-        requires { MaySeat (contents self.old) number core }
-        ensures { Reseats (contents self.old) number core (Ok tt) (contents self.new) }
-    {
-        let mut handlers = self.handlers;
-        handlers[number as usize - 1].core = core;
-        *self = Plan {
-            count: self.count,
-            round: self.round,
-            settling: self.settling,
-            handlers,
-            joins: self.joins,
-        };
     }
 
     /// Moves the handler of this number to another core, or to the same one.
@@ -41,7 +22,7 @@ impl Plan {
         ensures untouched { Untouched result self.old self.new }
     {
         self.test_seat(number, core)?;
-        self.seat(number, core);
+        self.handlers[number as usize - 1].core = core;
         Ok(())
     }
 }
