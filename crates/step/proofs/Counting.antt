@@ -1,54 +1,23 @@
--- Counting up through rows: what the loop of `next_row` keeps, and what comes after what.
-use Rattle.std.proofs.Common.{◌≡◌, ℕ, zero, suc, ◌+◌, ◌-◌, ◌*◌, ◌<◌, ◌≤◌, ◌≢◌, ◌⊎◌, List, [], ◌∷◌, length, get_or, set, sym, refl, ap, ◌∙◌, subst, inl, inr, mul-suc, arith}
-use Rattle.std.proofs.lemmas.List.{length-set, get_or-set_same, get_or-set_other, get_or_past, ext_get_or}
+-- Counting up through rows: what the next row is, and what comes after what.
+use Rattle.std.proofs.Common.{◌≡◌, ℕ, zero, suc, ◌+◌, ◌-◌, ◌*◌, ◌<◌, ◌≤◌, ◌⊎◌, List, [], ◌∷◌, ◌++◌, length, get_or, take, drop, set, sym, ap, ◌∙◌, subst, inl, inr, mul-suc, arith}
+use Rattle.std.proofs.lemmas.List.{get_or_past, ext_get_or}
+use Rattle.std.proofs.lemmas.Grind.{common_steps}
 use Rattle.std.proofs.lemmas.Bool.{cases_eq, cases_lt, cases_order}
-use Rattle.step.specs.Rows.{Below, Between, Later, NextRow, Full, after}
+use Rattle.step.specs.Rows.{Below, Between, Later, FirstRoom, NextRow, Full, after}
 
--- the first i places were full and are back at low, and the others are as they were
-pub record Turned (low high x : List ℕ) (i : ℕ) (y : List ℕ) : Type 0 where
-  pub long : length y ≡ 64
-  pub full : (j : ℕ) → j < i → get_or x j 0 ≡ get_or high j 0
-  pub back : (j : ℕ) → j < i → get_or y j 0 ≡ get_or low j 0
-  pub same : (j : ℕ) → i ≤ j → get_or y j 0 ≡ get_or x j 0
-
-module _ (low high x : List ℕ) where
-  pub turned_none : length x ≡ 64 → Turned low high x 0 x
-  turned_none long = record { long = long; full = λ j l. absurd (omega arith); back = λ j l. absurd (omega arith); same = λ j l. refl }
-
-  module _ (i : ℕ) (y : List ℕ) (inside : i < 64) (turned : Turned low high x i y) where
-    pub turned_more : Below x high → get_or high i 0 ≤ get_or y i 0 → Turned low high x (i + 1) (set y i (get_or low i 0))
-    turned_more below no_room = record {
-      long = length-set y i (get_or low i 0) ∙ turned.long;
-      full = λ j l.
-          elim (cases_eq j i) [
-            | inl e ↦ subst (λ k. get_or x k 0 ≡ get_or high k 0) (sym e) (omega (arith, below i, turned.same i (omega arith)))
-            | inr ne ↦ turned.full j (omega arith)
-          ];
-      back = λ j l.
-          elim (cases_eq j i) [
-            | inl e ↦ subst (λ k. get_or (set y i (get_or low i 0)) k 0 ≡ get_or low k 0) (sym e) (get_or-set_same y i (get_or low i 0) 0 (omega (arith, turned.long)))
-            | inr ne ↦ get_or-set_other y i j (get_or low i 0) 0 ne ∙ turned.back j (omega arith)
-          ];
-      same = λ j l. let ne : j ≢ i = omega arith in get_or-set_other y i j (get_or low i 0) 0 ne ∙ turned.same j (omega arith);
-    }
-
-    pub next_found : get_or y i 0 < get_or high i 0 → NextRow low high x (set y i (get_or y i 0 + 1))
-    next_found room =
-        let z = get_or y i 0 + 1 in
-        let here : get_or y i 0 ≡ get_or x i 0 = turned.same i (omega arith) in
-        record {
-          long = length-set y i z ∙ turned.long;
-          place = i;
-          inside = inside;
-          full = turned.full;
-          back = λ j l. let ne : j ≢ i = omega arith in get_or-set_other y i j z 0 ne ∙ turned.back j l;
-          room = omega (arith, here);
-          up = get_or-set_same y i z 0 (omega (arith, turned.long)) ∙ ap (λ n. n + 1) here;
-          same = λ j l. let ne : j ≢ i = omega arith in get_or-set_other y i j z 0 ne ∙ turned.same j (omega arith);
-        }
-
-  pub full_all : (y : List ℕ) → Turned low high x 64 y → Full high x
-  full_all y turned = turned.full
+-- the front of low up to the first place with room, one more there, and the rest of x
+pub next_at : (low high x : List ℕ) (place : ℕ) → length low ≡ 64 → length x ≡ 64 → FirstRoom high x place → (front : List ℕ) → front ≡ take place low
+    → NextRow low high x (set (front ++ drop place x) place (get_or (front ++ drop place x) place 0 + 1))
+next_at low high x place long_low long first front is = record {
+  long = grind (arith, common_steps);
+  place = place;
+  inside = first.inside;
+  full = first.full;
+  back = λ j l. grind (arith, common_steps);
+  room = first.room;
+  up = grind (arith, common_steps);
+  same = λ j l. grind (arith, common_steps);
+}
 
 -- ---- what comes after what
 

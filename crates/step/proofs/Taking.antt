@@ -1,12 +1,15 @@
 -- Starts with times from a list are starts.
-use Rattle.std.proofs.Common.{◌≡◌, ℕ, ◌+◌, ◌≤◌, ◌≢◌, List, length, get_or, take, drop, set, sym, refl, ◌∙◌, subst, inl, inr, arith}
-use Rattle.std.proofs.lemmas.List.{length-set, get_or-set_same, get_or-set_other, get_or-take, length-take-le}
+use Rattle.std.proofs.Common.{◌≡◌, ℕ, suc, ◌+◌, ◌-◌, ◌<◌, ◌≤◌, ◌≢◌, List, ◌∷◌, length, get_or, take, drop, set, sym, refl, ap, ◌∙◌, subst, inl, inr, arith}
+use Rattle.std.proofs.lemmas.List.{length-set, get_or-set_same, get_or-set_other, get_or-take, get_or-drop, length-take-le, drop_more}
 use Rattle.std.proofs.lemmas.Bool.{cases_eq}
-use Rattle.plan.specs.Contents.{Contents, Sound, count, at}
+use Rattle.terms.specs.declared.handlers.Handler.{Handler}
+use Rattle.plan.specs.Contents.{Contents, Sound, count, at, Known}
 use Rattle.model.specs.Units.{Starts, Started}
 use Rattle.step.specs.Reaching.{StartsTo}
 use Rattle.step.proofs.Reading.{drop_same}
-use Rattle.step.specs.Given.{FitsHandler, Given, none, rests, takes}
+use Rattle.step.specs.declared.given.Misfit.{Misfit}
+use Rattle.step.specs.declared.given.Misfit.TheVariants.{Ended, Outside}
+use Rattle.step.specs.Given.{FitsHandler, RefusesTime, Given, StopsAt, none, rests, takes}
 
 -- what is known of a row by the times that were given
 pub record FilledTo (p : Contents) (t : ℕ) (list was : List ℕ) (n : ℕ) (row : List ℕ) (used : ℕ) : Type 0 where
@@ -45,16 +48,55 @@ module _ (p : Contents) (t : ℕ) (list was : List ℕ) (whole : length was ≡ 
             get_or-set_other row n i (get_or list used 0) 0 ne ∙ f.same i (λ s. k (omega (arith, s.0), s.1));
       }
 
-module _ (p : Contents) (ok : Sound p) (t : ℕ) (list was row : List ℕ) (used : ℕ) (whole : length was ≡ 64)
-    (n : ℕ) (end : n ≡ count p) (some : Given p t list was n row used) where
-  pub given_all : Given p t list was (count p) row used
-  given_all = subst (λ m. Given p t list was m row used) end some
+-- the handlers up to number n have had their turn, and rest is what is left of the list
+pub record HadTurns (p : Contents) (t : ℕ) (list was : List ℕ) (n : ℕ) (row rest : List ℕ) : Type 0 where
+  pub few : length rest ≤ length list
+  pub left : rest ≡ drop (length list - length rest) list
+  pub given : Given p t list was n row (length list - length rest)
 
-  f : FilledTo p t list was (count p) row used
-  f = filled p t list was whole ok.few given_all
+module _ (p : Contents) (t : ℕ) (list was : List ℕ) where
+  pub had_none : HadTurns p t list was 0 was list
+  had_none = let e : length list - length list ≡ 0 = omega arith in record { few = omega arith; left = rw e; given = rw e none }
 
-  pub given_few : used ≤ length list
-  given_few = f.few
+  module _ (n : ℕ) (known : Known p n) (row rest : List ℕ) (had : HadTurns p t list was (n - 1) row rest) where
+    turn : n - 1 + 1 ≡ n
+    turn = omega (arith, known)
+
+    pub had_rests : ¬ (Known p n × Starts p t (n - 1)) → HadTurns p t list was n row rest
+    had_rests lacks =
+        record { few = had.few; left = had.left; given = subst (λ k. Given p t list was k row (length list - length rest)) turn (rests had.given (λ s. lacks (known, s))) }
+
+    module _ (h : Handler) (found : Known p n × Starts p t (n - 1) × (h ≡ at p (n - 1))) where
+      pub had_takes : (time : ℕ) (others : List ℕ) → (rest ≡ time ∷ others) × FitsHandler h time → HadTurns p t list was n (set row (n - 1) time) others
+      had_takes time others taken =
+          let used = length list - length rest in
+          let long : length rest ≡ suc (length others) = ap length taken.0 in
+          let more : length list - length others ≡ used + 1 = omega (arith, had.few) in
+          let inside : used < length list = omega (arith, had.few) in
+          let both = sym taken.0 ∙ had.left ∙ drop_more list used 0 inside in
+          let first : time ≡ get_or list used 0 = cc in
+          let fits : FitsHandler (at p (n - 1)) (get_or list used 0) = rw (found.2, first) at taken.1 in
+          record {
+            few = omega (arith, had.few);
+            left = rw more cc;
+            given = rw (more, first) (subst (λ k. Given p t list was k (set row (n - 1) (get_or list used 0)) (used + 1)) turn (takes had.given found.1 inside fits));
+          }
+
+      pub had_stops : (e : Misfit) → RefusesTime h n rest 0 e → StopsAt p t list was e
+      had_stops e refuses = (n - 1, length list - length rest, record { known = omega (arith, known); starts = found.1; row = row; before = had.given }, go e refuses)
+        where
+          first : get_or rest 0 0 ≡ get_or list (length list - length rest) 0
+          first =
+              let e : length list - length rest + 0 ≡ length list - length rest = omega arith in
+              ap (λ l. get_or l 0 0) had.left ∙ get_or-drop (length list - length rest) list 0 0 ∙ ap (λ k. get_or list k 0) e
+
+          go : (e : Misfit) → RefusesTime h n rest 0 e → RefusesTime (at p (n - 1)) (n - 1 + 1) list (length list - length rest) e
+          go (Ended number) r = (r.0 ∙ sym turn, omega (arith, r.1, had.few))
+          go (Outside number time) r = (r.0 ∙ sym turn, omega (arith, r.1, had.few), r.2 ∙ first, rw found.2 at r.3)
+
+module _ (p : Contents) (ok : Sound p) (t : ℕ) (list was row rest : List ℕ) (whole : length was ≡ 64) (had : HadTurns p t list was (count p) row rest) where
+  f : FilledTo p t list was (count p) row (length list - length rest)
+  f = filled p t list was whole ok.few had.given
 
   pub given_long : length row ≡ 64
   given_long = f.long ∙ whole

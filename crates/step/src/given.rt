@@ -1,5 +1,5 @@
 // Starts with given times: what happened, or might have, in place of everything that can.
-ghost use Rattle.std.specs.Prelude.{◌≡◌, ◌+◌, ◌<◌, ◌≤◌, length, IfOk, MatchResult, slice_index};
+ghost use Rattle.std.specs.Prelude.{◌≡◌, ◌-◌, ◌≤◌, ◌∷◌, length, drop, IfOk, MatchResult};
 ghost use Rattle.plan.specs.Contents.{contents, count};
 ghost use Rattle.model.specs.Units.{Started, Step};
 ghost use Rattle.step.specs.Memory.{times, RestSame};
@@ -21,82 +21,69 @@ pub enum Misfit {
     Outside { number: u8, time: u16 },
 }
 
-/// A state, and how many times of the list were used for it.
+/// A state, and what is left of the list whose first times were used for it.
 #[derive(Clone, Copy)]
-pub struct Taken {
+pub struct Taken<'l> {
     pub state: State,
-    pub used: usize,
+    pub rest: &'l [u16],
 }
 
-// The next time of the list, if the handler can take it.
-fn next_time(handler: Handler, number: u8, list: &[u16], used: usize) -> Result<u16, Misfit>
-    ensures { MatchResult result (λ x. (used < length list.now) × (x ≡ slice_index list.now used) × FitsHandler handler x) (RefusesTime handler number list.now used) }
+// The next time of the list, if the handler can take it, and what is left of the list then.
+fn next_time(handler: Handler, number: u8, list: &[u16]) -> Result<(u16, &[u16]), Misfit>
+    ensures { MatchResult result (λ x. (list.now ≡ x.0 ∷ x.1.now) × FitsHandler handler x.0) (RefusesTime handler number list.now 0) }
 {
-    if used >= list.len() {
+    let [time, rest @ ..] = list else {
         return Err(Misfit::Ended { number });
-    }
-    let time = list[used];
-    if time < handler.shortest || time > handler.longest {
-        return Err(Misfit::Outside { number, time });
-    }
-    Ok(time)
-}
-
-// Starts the handler at the place `i` if it is its time, after those before it; answers how many times are used then.
-fn start_at(
-    plan: &Plan,
-    t: u64,
-    i: u8,
-    list: &[u16],
-    used: usize,
-    state: &State,
-    left: &mut [u16; 64],
-) -> Result<usize, Misfit>
-    requires inside { i < count (contents plan.now) }
-    requires before { Given (contents plan.now) t list.now state.now.left i left.old used }
-    ensures { MatchResult result (λ m. Given (contents plan.now) t list.now state.now.left (i + 1) left.new m) (StopsAt (contents plan.now) t list.now state.now.left) }
-{
-    let Some(handler) = starter(plan, i, t) else {
-        return Ok(used);
     };
-    let time = next_time(handler, i + 1, list, used)?;
-    left[i as usize] = time;
-    Ok(used + 1)
+    if !(handler.shortest..=handler.longest).contains(time) {
+        return Err(Misfit::Outside {
+            number,
+            time: *time,
+        });
+    }
+    Ok((*time, rest))
 }
 
 /// Makes the starts of `t` with the next times of the list, in the order of the handlers' numbers.
-pub fn start_with(plan: &Plan, t: u64, state: State, list: &[u16]) -> Result<Taken, Misfit>
-    ensures given { MatchResult result (λ x. Given (contents plan.now) t list.now state.left (count (contents plan.now)) x.state.left x.used) (StopsAt (contents plan.now) t list.now state.left) }
+pub fn start_with<'l>(
+    plan: &Plan,
+    t: u64,
+    mut state: State,
+    list: &'l [u16],
+) -> Result<Taken<'l>, Misfit>
+    ensures given { MatchResult result (λ x. Given (contents plan.now) t list.now state.left (count (contents plan.now)) x.state.left (length list.now - length x.rest.now)) (StopsAt (contents plan.now) t list.now state.left) }
     ensures started { IfOk result (λ x. Started (contents plan.now) t (times (contents plan.now) state) (times (contents plan.now) x.state)) }
     ensures rest { IfOk result (λ x. RestSame (contents plan.now) state x.state) }
-    ensures few { IfOk result (λ x. x.used ≤ length list.now) }
+    ensures few { IfOk result (λ x. length x.rest.now ≤ length list.now) }
+    ensures left { IfOk result (λ x. x.rest.now ≡ drop (length list.now - length x.rest.now) list.now) }
 {
-    let mut left = state.left;
-    let mut used = 0;
-    for i in 0..plan.count() {
-        used = start_at(plan, t, i, list, used, &state, &mut left)?;
+    let mut rest = list;
+    for number in 1..=plan.count() {
+        if let Some(handler) = starter(plan, number, t) {
+            let (time, others) = next_time(handler, number, rest)?;
+            state.left[number as usize - 1] = time;
+            rest = others;
+        }
     }
-    Ok(Taken {
-        state: State { left },
-        used,
-    })
+    Ok(Taken { state, rest })
 }
 
 /// The state one unit after `t`, where the handlers that start at `t` take the next times of the list.
-pub fn unit_with<D: Discipline>(
+pub fn unit_with<'l, D: Discipline>(
     plan: &Plan,
     d: &D,
     t: u64,
     state: State,
-    list: &[u16],
-) -> Result<Taken, Misfit>
+    list: &'l [u16],
+) -> Result<Taken<'l>, Misfit>
     ensures steps { IfOk result (λ x. Step (contents plan.now) (D.first d.now) t (times (contents plan.now) state) (times (contents plan.now) x.state)) }
-    ensures given { MatchResult result (λ x. GivenThenServed (contents plan.now) (D.first d.now) t list.now state x.state x.used) (StopsAt (contents plan.now) t list.now state.left) }
-    ensures few { IfOk result (λ x. x.used ≤ length list.now) }
+    ensures given { MatchResult result (λ x. GivenThenServed (contents plan.now) (D.first d.now) t list.now state x.state (length list.now - length x.rest.now)) (StopsAt (contents plan.now) t list.now state.left) }
+    ensures few { IfOk result (λ x. length x.rest.now ≤ length list.now) }
+    ensures left { IfOk result (λ x. x.rest.now ≡ drop (length list.now - length x.rest.now) list.now) }
 {
     let taken = start_with(plan, t, state, list)?;
     Ok(Taken {
         state: serve(plan, d, t, taken.state),
-        used: taken.used,
+        ..taken
     })
 }

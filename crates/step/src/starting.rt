@@ -1,10 +1,9 @@
 // Who starts.
-ghost use Rattle.std.specs.Prelude.{◌≡◌, ◌-◌, ◌<◌, ◌≤◌, Decides, MatchOption};
+ghost use Rattle.std.specs.Prelude.{◌≡◌, ◌-◌, ◌≤◌, Decides, MatchOption};
 ghost use Rattle.std.specs.Int.{◌∣◌};
-ghost use Rattle.plan.specs.Contents.{contents, count, at, Known};
+ghost use Rattle.plan.specs.Contents.{contents, at, Known};
 ghost use Rattle.model.specs.Units.{Starts};
 
-use crate::places::handler_at;
 use plan::plans::Plan;
 use terms::handlers::Handler;
 
@@ -24,16 +23,11 @@ pub(crate) fn begins(handler: Handler, t: u64) -> bool
     comes_round(handler.period as u64, handler.offset as u64, t)
 }
 
-// The handler at a place, if it starts at `t`.
-pub(crate) fn starter(plan: &Plan, i: u8, t: u64) -> Option<Handler>
-    requires { i < count (contents plan.now) }
-    ensures { MatchOption result (Starts (contents plan.now) t i → ⊥) (λ h. Starts (contents plan.now) t i × (h ≡ at (contents plan.now) i)) }
+// The handler of this number, if it starts at `t`.
+pub(crate) fn starter(plan: &Plan, number: u8, t: u64) -> Option<Handler>
+    ensures { MatchOption result (Known (contents plan.now) number × Starts (contents plan.now) t (number - 1) → ⊥) (λ h. Known (contents plan.now) number × Starts (contents plan.now) t (number - 1) × (h ≡ at (contents plan.now) (number - 1))) }
 {
-    let handler = handler_at(plan, i);
-    if !begins(handler, t) {
-        return None;
-    }
-    Some(handler)
+    plan.handler(number).filter(|handler| begins(*handler, t))
 }
 
 /// Whether the handler of this number starts at `t`; not where there is none.

@@ -1,34 +1,31 @@
-use Rattle.std.proofs.Common.{◌≡◌, ℕ, ◌-◌, ◌≢◌, length, get_or, set, sym, ◌∙◌, subst, inl, inr, arith}
-use Rattle.std.proofs.lemmas.List.{length-set, get_or-set_same, get_or-set_other, get_or_past}
+use Rattle.std.proofs.Common.{◌≡◌, ℕ, zero, suc, ◌+◌, ◌-◌, ◌<◌, ◌≤◌, List, get_or, refl, inl, inr, arith, rules}
+use denote.Param.Members.{Mut, Called}
+use Rattle.std.specs.Array.{IsFromFnResultFrom}
 use Rattle.std.proofs.lemmas.Bool.{cases_eq, cases_lt}
+use Rattle.std.proofs.lemmas.List.{get_or_past}
 use Rattle.step.proofs.following.reaching.lowered.Goals as goal
 
-pub loop-i-preserved : goal.loop-i-preserved
-loop-i-preserved c =
-    let i = c.loop-i.i in
-    let row = c.loop-i.left in
-    let x = c.saturating_sub.result in
-    let long : length row ≡ 64 = c.loop-i.invariant.0 in
-    let goal : ℕ → ℕ = λ j. get_or c.args.high.left j 0 - (get_or c.args.low.now.left j 0 - get_or c.args.served.now.left j 0) in
-    let here : x ≡ goal i = omega (arith, c.loop-i.invariant.2 i (omega arith)) in (
-      length-set row i x ∙ long,
-      (λ j l.
-          elim (cases_eq j i) [
-            | inl e ↦ subst (λ k. get_or (set row i x) k 0 ≡ goal k) (sym e) (get_or-set_same row i x 0 (omega arith) ∙ here)
-            | inr ne ↦ get_or-set_other row i j x 0 ne ∙ c.loop-i.invariant.1 j (omega arith)
-          ]),
-      (λ j l. let ne : j ≢ i = omega arith in get_or-set_other row i j x 0 ne ∙ c.loop-i.invariant.2 j (omega arith)),
-    )
-
-pub invariant_of-result : goal.invariant_of-result
-invariant_of-result c = record { whole = c.loop-i.invariant.0 }
+-- what `from_fn` makes, where each call of the closure keeps K and gives at the index k a number of which R holds
+module _ {F : Type 0} (g : Mut F (ℕ × Unit {0}) ℕ) (K : F → Type 0) (R : ℕ → ℕ → Type 0)
+    (calls : (f : F) (k y : ℕ) (q : F) → K f → Called g f (k, tt) y q → K q × R k y) where
+  each_from : (f : F) (ys : List ℕ) (i n : ℕ) → K f → IsFromFnResultFrom g f ys i n → (k : ℕ) → i ≤ k → k < i + n → R k (get_or ys k 0)
+  each_from f ys i zero kept made k low high = absurd (omega arith)
+  each_from f ys i (suc n) kept (q, y, is, call, rest) k low high =
+      let both = calls f i y q kept call in
+      elim (cases_eq k i) [
+        | inl e ↦ rw (e, is.1 0) both.1
+        | inr ne ↦ each_from q ys (i + 1) n both.0 rest k (omega arith) (omega arith)
+      ]
 
 pub returns : goal.returns
 returns c i =
+    let goes : ℕ → ℕ = λ k. get_or c.args.high.now.left k 0 - (get_or c.args.low.now.left k 0 - get_or c.args.served.now.left k 0) in
     elim (cases_lt i 64) [
-      | inl l ↦ c.loop-i.invariant.1 i (omega arith)
-      | inr g ↦
-          (let a : get_or c.loop-i.left i 0 ≡ 0 = get_or_past c.loop-i.left i 0 (omega (arith, c.loop-i.invariant.0)) in
-          let b : get_or c.args.high.left i 0 ≡ 0 = get_or_past c.args.high.left i 0 (omega (arith, c.args.high.whole)) in
+      | inl l ↦
+          each_from _ (λ f. (f.0.now ≡ c.args.low.now) × (f.1.now ≡ c.args.served.now) × (f.2.now ≡ c.args.high.now)) (λ k y. y ≡ goes k)
+          (λ f k y q kept call. search rules) _ c.from_fn-left.result 0 64 (refl, refl, refl) c.from_fn-left.ensures.items.each i (omega arith) l
+      | inr h ↦
+          (let a : get_or c.from_fn-left.result i 0 ≡ 0 = get_or_past c.from_fn-left.result i 0 (omega (arith, c.from_fn-left.ensures.items.long)) in
+          let b : get_or c.args.high.now.left i 0 ≡ 0 = get_or_past c.args.high.now.left i 0 (omega (arith, c.args.high.now.whole)) in
           omega arith)
     ]
