@@ -1,7 +1,7 @@
 // A plan and the codes of its cores, read from text line by line.
 #![tactic(auto)]
 
-ghost use Rattle.std.specs.Prelude.{◌≡◌, ℕ, List, IfOk, IfErr, MatchResult};
+ghost use Rattle.std.specs.Prelude.{◌≡◌, ℕ, List, IfOk, OnErr, MatchResult};
 ghost use Rattle.notation.specs.declared.HandlerLine.{HandlerLine};
 ghost use Rattle.notation.specs.declared.JoinLine.{JoinLine};
 ghost use Rattle.notation.specs.declared.CoreLine.{CoreLine};
@@ -11,7 +11,7 @@ ghost use Rattle.std.specs.Str.Lines.{lines};
 ghost use Rattle.notation.specs.Lines.{texts, Says};
 ghost use Rattle.listing.specs.Taking.{byte_of, before_comment, IsNew, TookHandler, TookJoin, TookCode, Took, RefusesHandler, RefusesJoin, RefusesCode, Refuses, SplitsInto, TookText, Lists};
 
-use anyhow::bail;
+use anyhow::anyhow;
 use banks::codes::Code;
 use notation::{CoreLine, HandlerLine, JoinLine, Line, Problem, parse_words};
 use order::cores::Core;
@@ -63,7 +63,7 @@ impl Listing {
 
     fn add_handler(&mut self, line: HandlerLine) -> Result<(), Trouble>
         ensures took { MatchResult result (λ _. TookHandler line self.old self.new) (RefusesHandler line self.old) }
-        ensures same { IfErr result (λ _. self.new ≡ self.old) }
+        ensures same { OnErr result (self.new ≡ self.old) }
     {
         let handler = Handler {
             period: line.period,
@@ -78,7 +78,7 @@ impl Listing {
 
     fn add_join(&mut self, line: JoinLine) -> Result<(), Trouble>
         ensures took { MatchResult result (λ _. TookJoin line self.old self.new) (RefusesJoin line self.old) }
-        ensures same { IfErr result (λ _. self.new ≡ self.old) }
+        ensures same { OnErr result (self.new ≡ self.old) }
     {
         self.plan
             .join(byte(line.first), byte(line.second))
@@ -87,7 +87,7 @@ impl Listing {
 
     fn set_code(&mut self, line: CoreLine) -> Result<(), Trouble>
         ensures took { MatchResult result (λ _. TookCode line self.old self.new) (RefusesCode line) }
-        ensures same { IfErr result (λ _. self.new ≡ self.old) }
+        ensures same { OnErr result (self.new ≡ self.old) }
     {
         let core = Core::new(byte(line.core)).ok_or(Trouble::NoCore(line.core))?;
         let code = Code::try_from(byte(line.code)).map_err(|_| Trouble::NoCode(line.code))?;
@@ -98,7 +98,7 @@ impl Listing {
     /// Takes what a line says, unless the plan refuses it or there is no such core or code.
     pub fn take(&mut self, line: Line) -> Result<(), Trouble>
         ensures took { MatchResult result (λ _. Took line self.old self.new) (Refuses line self.old) }
-        ensures same { IfErr result (λ _. self.new ≡ self.old) }
+        ensures same { OnErr result (self.new ≡ self.old) }
     {
         match line {
             Line::Empty => Ok(()),
@@ -108,21 +108,14 @@ impl Listing {
         }
     }
 
-    // Takes what these words say.
-    fn add_words(&mut self, words: &[&str]) -> Result<(), Trouble>
-        ensures took { IfOk result (λ _. (line : Line) × Says (texts words.now) line × Took line self.old self.new) }
-        ensures same { IfErr result (λ _. self.new ≡ self.old) }
-    {
-        self.take(parse_words(words).map_err(Trouble::Words)?)
-    }
-
     // Takes one line of text; what follows a `#` is a comment.
     fn add_line(&mut self, heap: Global, text: &str) -> Result<(), Trouble>
         ensures took { IfOk result (λ _. TookText text.now self.old self.new) }
-        ensures same { IfErr result (λ _. self.new ≡ self.old) }
+        ensures same { OnErr result (self.new ≡ self.old) }
     {
         let words = words(heap, before_comment(text)).map_err(|_| Trouble::Memory)?;
-        self.add_words(words.as_slice())
+        let line = parse_words(&words).map_err(Trouble::Words)?;
+        self.take(line)
     }
 }
 
@@ -144,10 +137,10 @@ pub fn read(heap: Global, text: &str) -> anyhow::Result<Listing>
 {
     let mut list = Listing::new();
     for (at, line) in text.lines().enumerate() {
-        if let Err(trouble) = list.add_line(heap, line) {
-            let number = at.saturating_add(1);
-            bail!("line {number}: {trouble}");
-        }
+        list.add_line(heap, line).map_err(|trouble| anyhow!(
+            "line {}: {trouble}",
+            at.saturating_add(1)
+        ))?;
     }
     Ok(list)
 }
