@@ -1,21 +1,24 @@
 -- A text cut into lines and words, piece by piece.
-use Rattle.std.proofs.Common.{◌≡◌, ℕ, ◌+◌, ◌<◌, List, [], ◌∷◌, ◌++◌, map, length, Bor, refl, sym, ap, ◌∙◌, append_assoc}
-use Rattle.std.proofs.lemmas.List.{map-append}
+use Rattle.std.proofs.Common.{◌≡◌, ℕ, ◌+◌, ◌<◌, List, [], ◌∷◌, ◌++◌, map, length, Bor, refl, sym, ap, ◌∙◌}
 use Rattle.std.proofs.lemmas.Simd.{map-map}
 use Rattle.std.specs.List.{enumerate_from}
 use Rattle.std.specs.Str.{NoCharPasses, EmptyOrStartsWithPassing}
 use Rattle.std.specs.Char.{is_whitespace, is_not_whitespace}
 use Rattle.notation.specs.Lines.{texts}
-use Rattle.listing.specs.Taking.{StartsWithWord}
+use Rattle.std.specs.Iterator.{DrainsIf}
+use Rattle.std.specs.Str.Iter.{split_whitespace_rest, split_whitespace_steps}
+use Rattle.std.specs.declared.str.SplitWhitespace.{SplitWhitespace}
+use Rattle.listing.specs.Taking.{StartsWithWord, SplitsInto}
 
 -- what the iterator over words says of one, as the record
 pub starts_from : (text word rest : List ℕ) → (gap : List ℕ) × (text ≡ gap ++ (word ++ rest)) × (0 < length word) × NoCharPasses is_not_whitespace gap × NoCharPasses is_whitespace word × ((more : List ℕ) × EmptyOrStartsWithPassing is_whitespace rest more)
     → StartsWithWord text word rest
 starts_from text word rest x = record { gap = x.0; split = x.1; nonempty = x.2; gap_is_blank = x.3; word_is_whole = x.4; rest_starts_blank = x.5 }
 
--- one text more, and then others
-pub texts_then : (xs : List (Bor (List ℕ))) (x : Bor (List ℕ)) (more : List (List ℕ)) → texts (xs ++ x ∷ []) ++ more ≡ texts xs ++ x.now ∷ more
-texts_then xs x more = ap (λ l. l ++ more) (map-append (λ w. w.now) xs (x ∷ [])) ∙ append_assoc (texts xs) (x.now ∷ []) more
+-- all that it gives are the words of its text
+pub all_words : (xs : List (Bor (List ℕ))) (s : SplitWhitespace) → DrainsIf split_whitespace_steps (Unit {0}) s xs → SplitsInto (split_whitespace_rest s) (texts xs)
+all_words [] s (t, is, last) = rw is ((last tt).1.1)
+all_words (x ∷ xs) s (t, (u, step, more), last) = (split_whitespace_rest u, starts_from _ _ _ step, all_words xs u (t, more, last))
 
 -- the lines that were numbered so far
 abbrev pub lines_of : List (ℕ × Bor (List ℕ)) → List (List ℕ)

@@ -1,26 +1,25 @@
 // A plan and the codes of its cores, read from text line by line.
 #![tactic(auto)]
 
-ghost use Rattle.std.specs.Prelude.{◌≡◌, ℕ, List, IfOk, IfErr, MatchResult};
+ghost use Rattle.std.specs.Prelude.{◌≡◌, ℕ, List, IfOk, OnErr, MatchResult};
 ghost use Rattle.notation.specs.declared.HandlerLine.{HandlerLine};
 ghost use Rattle.notation.specs.declared.JoinLine.{JoinLine};
 ghost use Rattle.notation.specs.declared.CoreLine.{CoreLine};
 ghost use Rattle.notation.specs.declared.Line.{Line};
 ghost use Rattle.listing.specs.declared.Listing.{Listing};
-ghost use Rattle.listing.specs.declared.Trouble.TheVariants.{Words, Refused, Memory};
 ghost use Rattle.std.specs.Str.Lines.{lines};
 ghost use Rattle.notation.specs.Lines.{texts, Says};
 ghost use Rattle.listing.specs.Taking.{byte_of, before_comment, IsNew, TookHandler, TookJoin, TookCode, Took, RefusesHandler, RefusesJoin, RefusesCode, Refuses, SplitsInto, TookText, Lists};
 
-use anyhow::bail;
+use anyhow::anyhow;
 use banks::codes::Code;
 use notation::{CoreLine, HandlerLine, JoinLine, Line, Problem, parse_words};
 use order::cores::Core;
 use plan::plans::Plan;
-use std::alloc::{AllocError, AllocFailed, Global};
-use std::fmt;
+use std::alloc::{AllocError, Global};
 use terms::handlers::Handler;
 use terms::refusals::Refusal;
+use thiserror::Error;
 
 /// A plan, and a code for each core.
 #[derive(Drop)]
@@ -30,70 +29,25 @@ pub struct Listing {
 }
 
 /// Why a line is not taken.
-#[derive(Drop)]
+#[derive(Debug, Drop, Error)]
 pub enum Trouble {
+    #[error(transparent)]
     Words(Problem),
+    #[error("refused with {}: {}", .0.number(), .0)]
     Refused(Refusal),
+    #[error("there is no core {0}: cores are 1 to 8")]
     NoCore(u16),
+    #[error("there is no code {0}: codes are 1, 2 and 3")]
     NoCode(u16),
+    #[error("out of memory")]
     Memory,
-}
-
-impl From<AllocError> for Trouble {
-    ghost from_gives = { λ _ e. e ≡ Memory };
-
-    fn from(_e: AllocError) -> Trouble {
-        Trouble::Memory
-    }
-}
-
-impl<T: Drop> From<AllocFailed<T>> for Trouble {
-    ghost from_gives = { λ _ e. e ≡ Memory };
-
-    fn from(_e: AllocFailed<T>) -> Trouble {
-        Trouble::Memory
-    }
-}
-
-impl From<Problem> for Trouble {
-    ghost from_gives = { λ problem e. e ≡ Words problem };
-
-    fn from(e: Problem) -> Trouble {
-        Trouble::Words(e)
-    }
-}
-
-impl From<Refusal> for Trouble {
-    ghost from_gives = { λ refusal e. e ≡ Refused refusal };
-
-    fn from(e: Refusal) -> Trouble {
-        Trouble::Refused(e)
-    }
-}
-
-impl fmt::Display for Trouble {
-    fn fmt<W: fmt::Write>(&self, f: &mut fmt::Formatter<W>) -> fmt::Result {
-        match self {
-            Trouble::Words(problem) => write!(f, "{problem}"),
-            Trouble::Refused(refusal) => {
-                let number = refusal.number();
-                write!(f, "refused with {number}: {refusal}")
-            }
-            Trouble::NoCore(n) => write!(f, "there is no core {n}: cores are 1 to 8"),
-            Trouble::NoCode(n) => write!(f, "there is no code {n}: codes are 1, 2 and 3"),
-            Trouble::Memory => write!(f, "out of memory"),
-        }
-    }
 }
 
 // The number as a byte. What does not fit becomes 255, which is no core, no code and no handler either.
 fn byte(number: u16) -> u8
     ensures { result ≡ byte_of number }
 {
-    match u8::try_from(number) {
-        Ok(byte) => byte,
-        Err(_) => 255,
-    }
+    u8::try_from(number).unwrap_or(255)
 }
 
 impl Listing {
@@ -109,40 +63,42 @@ impl Listing {
 
     fn add_handler(&mut self, line: HandlerLine) -> Result<(), Trouble>
         ensures took { MatchResult result (λ _. TookHandler line self.old self.new) (RefusesHandler line self.old) }
-        ensures same { IfErr result (λ _. self.new ≡ self.old) }
+        ensures same { OnErr result (self.new ≡ self.old) }
     {
-        self.plan.register(Handler {
+        let handler = Handler {
             period: line.period,
             offset: line.offset,
             shortest: line.shortest,
             longest: line.longest,
             core: byte(line.core),
-        })?;
+        };
+        self.plan.register(handler).map_err(Trouble::Refused)?;
         Ok(())
     }
 
     fn add_join(&mut self, line: JoinLine) -> Result<(), Trouble>
         ensures took { MatchResult result (λ _. TookJoin line self.old self.new) (RefusesJoin line self.old) }
-        ensures same { IfErr result (λ _. self.new ≡ self.old) }
+        ensures same { OnErr result (self.new ≡ self.old) }
     {
-        self.plan.join(byte(line.first), byte(line.second))?;
-        Ok(())
+        self.plan
+            .join(byte(line.first), byte(line.second))
+            .map_err(Trouble::Refused)
     }
 
     fn set_code(&mut self, line: CoreLine) -> Result<(), Trouble>
         ensures took { MatchResult result (λ _. TookCode line self.old self.new) (RefusesCode line) }
-        ensures same { IfErr result (λ _. self.new ≡ self.old) }
+        ensures same { OnErr result (self.new ≡ self.old) }
     {
         let core = Core::new(byte(line.core)).ok_or(Trouble::NoCore(line.core))?;
-        let code = Code::new(byte(line.code)).ok_or(Trouble::NoCode(line.code))?;
-        self.codes[core.number() as usize - 1] = code;
+        let code = Code::try_from(byte(line.code)).map_err(|_| Trouble::NoCode(line.code))?;
+        self.codes[core.place()] = code;
         Ok(())
     }
 
     /// Takes what a line says, unless the plan refuses it or there is no such core or code.
     pub fn take(&mut self, line: Line) -> Result<(), Trouble>
         ensures took { MatchResult result (λ _. Took line self.old self.new) (Refuses line self.old) }
-        ensures same { IfErr result (λ _. self.new ≡ self.old) }
+        ensures same { OnErr result (self.new ≡ self.old) }
     {
         match line {
             Line::Empty => Ok(()),
@@ -152,41 +108,27 @@ impl Listing {
         }
     }
 
-    // Takes what these words say.
-    fn add_words(&mut self, words: &[&str]) -> Result<(), Trouble>
-        ensures took { IfOk result (λ _. (line : Line) × Says (texts words.now) line × Took line self.old self.new) }
-        ensures same { IfErr result (λ _. self.new ≡ self.old) }
-    {
-        self.take(parse_words(words)?)
-    }
-
     // Takes one line of text; what follows a `#` is a comment.
     fn add_line(&mut self, heap: Global, text: &str) -> Result<(), Trouble>
         ensures took { IfOk result (λ _. TookText text.now self.old self.new) }
-        ensures same { IfErr result (λ _. self.new ≡ self.old) }
+        ensures same { OnErr result (self.new ≡ self.old) }
     {
-        let words = words(heap, before_comment(text))?;
-        self.add_words(words.as_slice())
+        let words = words(heap, before_comment(text)).map_err(|_| Trouble::Memory)?;
+        let line = parse_words(&words).map_err(Trouble::Words)?;
+        self.take(line)
     }
 }
 
 fn before_comment(text: &str) -> &str
     ensures { result.now ≡ before_comment text.now }
 {
-    match text.split_once('#') {
-        Some((before, _)) => before,
-        None => text,
-    }
+    text.split_once('#').map_or(text, |(before, _)| before)
 }
 
 fn words(heap: Global, text: &str) -> Result<Vec<&str>, AllocError>
     ensures { IfOk result (λ v. SplitsInto text.now (texts v.items)) }
 {
-    let mut words = Vec::new(heap);
-    for word in text.split_whitespace() {
-        words.push(word)?;
-    }
-    Ok(words)
+    text.split_whitespace().collect(heap)
 }
 
 /// Reads a whole list; a bad line ends it with a message that names the line.
@@ -195,10 +137,10 @@ pub fn read(heap: Global, text: &str) -> anyhow::Result<Listing>
 {
     let mut list = Listing::new();
     for (at, line) in text.lines().enumerate() {
-        if let Err(trouble) = list.add_line(heap, line) {
-            let number = at.saturating_add(1);
-            bail!("line {number}: {trouble}");
-        }
+        list.add_line(heap, line).map_err(|trouble| anyhow!(
+            "line {}: {trouble}",
+            at.saturating_add(1)
+        ))?;
     }
     Ok(list)
 }

@@ -32,8 +32,10 @@ key_text First = codes "first"
 key_text Second = codes "second"
 
 -- the words begin with a key and its number, and these are left
-abbrev pub Field : List (List ℕ) → Key → ℕ → List (List ℕ) → Type 0
-Field ws key n rest = (word : List ℕ) × (ws ≡ key_text key ∷ (word ∷ rest)) × Writes word n
+pub record Field (ws : List (List ℕ)) (key : Key) (n : ℕ) (rest : List (List ℕ)) : Type 0 where
+  pub word : List ℕ
+  pub starts : ws ≡ key_text key ∷ (word ∷ rest)
+  pub writes : Writes word n
 
 -- the words begin with a key and its number, and what is left is such
 abbrev pub Then : List (List ℕ) → Key → ℕ → (List (List ℕ) → Type 0) → Type 0

@@ -10,9 +10,10 @@ ghost use Rattle.notation.specs.declared.Line.{Line};
 ghost use Rattle.notation.specs.Lines.{texts, key_text, Field, SaysHandler, SaysJoin, SaysCore, Says};
 
 use std::fmt;
+use thiserror::Error;
 
 /// A word that says what the number after it is.
-#[derive(Clone, Copy)]
+#[derive(Clone, Copy, Debug)]
 pub enum Key {
     Core,
     Period,
@@ -38,6 +39,12 @@ impl Key {
             Key::First => "first",
             Key::Second => "second",
         }
+    }
+}
+
+impl fmt::Display for Key {
+    fn fmt<W: fmt::Write>(&self, f: &mut fmt::Formatter<W>) -> fmt::Result {
+        f.write_str(self.text())
     }
 }
 
@@ -75,27 +82,28 @@ pub enum Line {
 }
 
 /// What is wrong with a line.
-#[derive(Clone, Copy)]
+#[derive(Clone, Copy, Debug, Error)]
 pub enum Problem {
+    #[error("a line begins with `handler`, `join` or `core`")]
     UnknownStart,
+    #[error("expected `{0}` and a number")]
     NoField(Key),
+    #[error("expected a number from 0 to 65535 after `{0}`")]
     NoNumber(Key),
+    #[error("nothing may follow the last number")]
     MoreWords,
 }
 
 // The number of the field that the words begin with, and the words after it.
 fn field<'a, 'b>(words: &'a [&'b str], key: Key) -> Result<(u16, &'a [&'b str]), Problem>
-    ensures { MatchResult result (λ x. Field (texts words.now) key x.0 (texts x.1.now)) (λ _. (n : ℕ) (rest : List (List ℕ)) → Field (texts words.now) key n rest → ⊥) }
+    ensures { MatchResult result (λ x. Field (texts words.now) key x.0 (texts x.1.now)) (λ _. (n : ℕ) (rest : List (List ℕ)) → ¬ Field (texts words.now) key n rest) }
 {
-    let [name, number, rest @ ..] = words else {
-        return Err(Problem::NoField(key));
-    };
-    if *name != key.text() {
-        return Err(Problem::NoField(key));
-    }
-    match number.parse::<u16>() {
-        Ok(n) => Ok((n, rest)),
-        Err(_) => Err(Problem::NoNumber(key)),
+    match words {
+        [name, number, rest @ ..] if *name == key.text() => {
+            let number = number.parse().map_err(|_| Problem::NoNumber(key))?;
+            Ok((number, rest))
+        }
+        _ => Err(Problem::NoField(key)),
     }
 }
 
@@ -103,16 +111,15 @@ fn field<'a, 'b>(words: &'a [&'b str], key: Key) -> Result<(u16, &'a [&'b str]),
 fn end(words: &[&str]) -> Result<(), Problem>
     ensures { MatchResult result (λ _. texts words.now ≡ []) (λ _. texts words.now ≢ []) }
 {
-    if words.is_empty() {
-        Ok(())
-    } else {
-        Err(Problem::MoreWords)
+    match words {
+        [] => Ok(()),
+        _ => Err(Problem::MoreWords),
     }
 }
 
 // The line that goes on after `handler`.
 fn handler(words: &[&str]) -> Result<HandlerLine, Problem>
-    ensures { MatchResult result (λ h. SaysHandler (texts words.now) h) (λ _. (h : HandlerLine) → SaysHandler (texts words.now) h → ⊥) }
+    ensures { MatchResult result (λ h. SaysHandler (texts words.now) h) (λ _. (h : HandlerLine) → ¬ SaysHandler (texts words.now) h) }
 {
     let (core, words) = field(words, Key::Core)?;
     let (period, words) = field(words, Key::Period)?;
@@ -131,7 +138,7 @@ fn handler(words: &[&str]) -> Result<HandlerLine, Problem>
 
 // The line that goes on after `join`.
 fn join(words: &[&str]) -> Result<JoinLine, Problem>
-    ensures { MatchResult result (λ j. SaysJoin (texts words.now) j) (λ _. (j : JoinLine) → SaysJoin (texts words.now) j → ⊥) }
+    ensures { MatchResult result (λ j. SaysJoin (texts words.now) j) (λ _. (j : JoinLine) → ¬ SaysJoin (texts words.now) j) }
 {
     let (first, words) = field(words, Key::First)?;
     let (second, words) = field(words, Key::Second)?;
@@ -141,7 +148,7 @@ fn join(words: &[&str]) -> Result<JoinLine, Problem>
 
 // The line that gives a core its code.
 fn core(words: &[&str]) -> Result<CoreLine, Problem>
-    ensures { MatchResult result (λ k. SaysCore (texts words.now) k) (λ _. (k : CoreLine) → SaysCore (texts words.now) k → ⊥) }
+    ensures { MatchResult result (λ k. SaysCore (texts words.now) k) (λ _. (k : CoreLine) → ¬ SaysCore (texts words.now) k) }
 {
     let (core, words) = field(words, Key::Core)?;
     let (code, words) = field(words, Key::Code)?;
@@ -151,35 +158,13 @@ fn core(words: &[&str]) -> Result<CoreLine, Problem>
 
 /// What the words of a line say; a line with no word says nothing.
 pub fn parse_words(words: &[&str]) -> Result<Line, Problem>
-    ensures { MatchResult result (λ line. Says (texts words.now) line) (λ _. (line : Line) → Says (texts words.now) line → ⊥) }
+    ensures { MatchResult result (λ line. Says (texts words.now) line) (λ _. (line : Line) → ¬ Says (texts words.now) line) }
 {
-    let [start, rest @ ..] = words else {
-        return Ok(Line::Empty);
-    };
-    if *start == "handler" {
-        Ok(Line::Handler(handler(rest)?))
-    } else if *start == "join" {
-        Ok(Line::Join(join(rest)?))
-    } else if *start == "core" {
-        Ok(Line::CoreCode(core(words)?))
-    } else {
-        Err(Problem::UnknownStart)
-    }
-}
-
-impl fmt::Display for Problem {
-    fn fmt<W: fmt::Write>(&self, f: &mut fmt::Formatter<W>) -> fmt::Result {
-        match self {
-            Problem::UnknownStart => write!(f, "a line begins with `handler`, `join` or `core`"),
-            Problem::NoField(key) => {
-                let name = key.text();
-                write!(f, "expected `{name}` and a number")
-            }
-            Problem::NoNumber(key) => {
-                let name = key.text();
-                write!(f, "expected a number from 0 to 65535 after `{name}`")
-            }
-            Problem::MoreWords => write!(f, "nothing may follow the last number"),
-        }
+    match words {
+        [] => Ok(Line::Empty),
+        ["handler", rest @ ..] => handler(rest).map(Line::Handler),
+        ["join", rest @ ..] => join(rest).map(Line::Join),
+        ["core", ..] => core(words).map(Line::CoreCode),
+        _ => Err(Problem::UnknownStart),
     }
 }

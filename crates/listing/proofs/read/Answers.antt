@@ -1,9 +1,9 @@
-use Rattle.std.proofs.Common.{[], ◌∷◌, sym, subst}
+use Rattle.std.proofs.Common.{[], ◌∷◌, sym, subst, rules}
 use Rattle.std.proofs.lemmas.List.{map-append}
 use Rattle.std.proofs.lemmas.Iterator.Splits.{YieldsList-from_lines}
 use Rattle.std.proofs.lemmas.Iterator.Consumers.{YieldsList-from_enumerate, YieldsList-end}
 use Rattle.std.specs.Str.Lines.{lines}
-use Rattle.listing.specs.Taking.{begun, then, Lists}
+use Rattle.listing.specs.Taking.{begun, then, Lists, TookText}
 use Rattle.listing.proofs.Cutting.{lines_are}
 use Rattle.listing.proofs.read.Goals as goal
 
@@ -12,8 +12,9 @@ loop-at-init c = begun c.new-list.ensures
 
 pub loop-at-preserved : goal.loop-at-preserved
 loop-at-preserved c =
+    let took : TookText c.in-Some.line.now c.loop-at.list c.add_line.new.self = search rules in
     subst (λ ls. Lists ls c.add_line.new.self) (sym (map-append (λ x. x.1.now) c.loop-at.yielded ((c.in-Some.at, c.in-Some.line) ∷ [])))
-    (then c.in-Some.line.now c.loop-at.invariant c.in_default.ensures.took)
+    (then c.in-Some.line.now c.loop-at.invariant took)
 
 pub returns : goal.returns
 returns c =

@@ -1,45 +1,19 @@
-use Rattle.std.proofs.Common.{◌≡◌, ◌-◌, ◌∷◌, length, take, drop, codes, arith, rules, ltb-false}
-use Rattle.std.proofs.lemmas.Result.{err_from_is_err_and}
-use Rattle.notation.specs.Lines.{texts}
-use Rattle.notation.proofs.Fields.{word, split_one}
-use Rattle.notation.proofs.Starts.{handler_unsaid, join_unsaid, core_unsaid}
+use Rattle.notation.specs.declared.Line.TheVariants.{Handler, Join, CoreCode}
+use Rattle.notation.proofs.Fields.{split_one}
+use Rattle.notation.proofs.Starts.{made, handler_unsaid, join_unsaid, core_unsaid}
 use Rattle.notation.proofs.parse_words.Goals as goal
 
-pub returns-in_err-handler : goal.returns-in_err-handler
-returns-in_err-handler c =
-    let ws = c.args.words.now in
-    let rest = texts (take (length ws - 1) (drop 1 ws)) in
-    let start : word ws 0 ≡ codes "handler" = search rules in
-    let is : texts ws ≡ codes "handler" ∷ rest = rw start at (split_one ws (omega (arith, ltb-false))) in
-    let p = err_from_is_err_and c.from_residual.result c.from_residual.ensures.1 in
-    rw p.1 (handler_unsaid (texts ws) rest is c.in_err-handler.ensures)
+pub returns-in-handler : goal.returns-in-handler
+returns-in-handler c =
+    let is = split_one c.args.words.now _ c.in-handler.len_at_least c.in-handler.is-handler in
+    made Handler _ _ _ _ c.map.ensures.cases c.handler.ensures (λ h says. (_, is, says)) (handler_unsaid _ _ is)
 
-pub returns-in_err-join : goal.returns-in_err-join
-returns-in_err-join c =
-    let ws = c.args.words.now in
-    let rest = texts (take (length ws - 1) (drop 1 ws)) in
-    let start : word ws 0 ≡ codes "join" = search rules in
-    let is : texts ws ≡ codes "join" ∷ rest = rw start at (split_one ws (omega (arith, ltb-false))) in
-    let p = err_from_is_err_and c.from_residual-in_err-join.result c.from_residual-in_err-join.ensures.1 in
-    rw p.1 (join_unsaid (texts ws) rest is c.in_err-join.ensures)
+pub returns-in-join : goal.returns-in-join
+returns-in-join c =
+    let is = split_one c.args.words.now _ c.in-join.len_at_least c.in-join.is-join in
+    made Join _ _ _ _ c.map-in-join.ensures.cases c.join.ensures (λ j says. (_, is, says)) (join_unsaid _ _ is)
 
-pub returns-in_err-core : goal.returns-in_err-core
-returns-in_err-core c =
-    let ws = c.args.words.now in
-    let rest = texts (take (length ws - 1) (drop 1 ws)) in
-    let start : word ws 0 ≡ codes "core" = search rules in
-    let is : texts ws ≡ codes "core" ∷ rest = rw start at (split_one ws (omega (arith, ltb-false))) in
-    let p = err_from_is_err_and c.from_residual-in_err-core.result c.from_residual-in_err-core.ensures.1 in
-    rw p.1 (core_unsaid (texts ws) rest is c.in_err-core.ensures)
-
-pub returns-in_ok-handler : goal.returns-in_ok-handler
-returns-in_ok-handler c =
-    let ws = c.args.words.now in
-    let start : word ws 0 ≡ codes "handler" = search rules in
-    (texts (take (length ws - 1) (drop 1 ws)), rw start at (split_one ws (omega (arith, ltb-false))), c.in_ok-handler.ensures)
-
-pub returns-in_ok-join : goal.returns-in_ok-join
-returns-in_ok-join c =
-    let ws = c.args.words.now in
-    let start : word ws 0 ≡ codes "join" = search rules in
-    (texts (take (length ws - 1) (drop 1 ws)), rw start at (split_one ws (omega (arith, ltb-false))), c.in_ok-join.ensures)
+pub returns-in-core : goal.returns-in-core
+returns-in-core c =
+    let is = split_one c.args.words.now _ c.in-core.len_at_least c.in-core.is-core in
+    made CoreCode _ _ _ _ c.map-in-core.ensures.cases c.core.ensures (λ k says. says) (core_unsaid _ _ is)
