@@ -84,9 +84,8 @@ fn show_run<D: Discipline>(
         show_state(rt, plan, t, &state)?;
         match unit_with(plan, d, t, state, rest) {
             Ok(taken) => {
-                let (_, unused) = rest.split_at(taken.used);
                 state = taken.state;
-                rest = unused;
+                rest = taken.rest;
             }
             Err(misfit) => bail!("at {t}: {}", Unfit(misfit)),
         }

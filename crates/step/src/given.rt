@@ -1,9 +1,9 @@
 // Starts with given times: what happened, or might have, in place of everything that can.
-ghost use Rattle.std.specs.Prelude.{◌≡◌, ◌-◌, ◌≤◌, ◌∷◌, length, drop, IfOk, MatchResult};
+ghost use Rattle.std.specs.Prelude.{◌≡◌, ◌≤◌, ◌∷◌, length, drop, IfOk, MatchResult};
 ghost use Rattle.plan.specs.Contents.{contents, count};
 ghost use Rattle.model.specs.Units.{Started, Step};
 ghost use Rattle.step.specs.Memory.{times, RestSame};
-ghost use Rattle.step.specs.Given.{FitsHandler, RefusesTime, Given, StopsAt, GivenThenServed};
+ghost use Rattle.step.specs.Given.{FitsHandler, RefusesTime, Given, used_up, StopsAt, GivenThenServed};
 
 use crate::serving::serve;
 use crate::starting::starter;
@@ -51,11 +51,11 @@ pub fn start_with<'l>(
     mut state: State,
     list: &'l [u16],
 ) -> Result<Taken<'l>, Misfit>
-    ensures given { MatchResult result (λ x. Given (contents plan.now) t list.now state.left (count (contents plan.now)) x.state.left (length list.now - length x.rest.now)) (StopsAt (contents plan.now) t list.now state.left) }
+    ensures given { MatchResult result (λ x. Given (contents plan.now) t list.now state.left (count (contents plan.now)) x.state.left (used_up list.now x.rest.now)) (StopsAt (contents plan.now) t list.now state.left) }
     ensures started { IfOk result (λ x. Started (contents plan.now) t (times (contents plan.now) state) (times (contents plan.now) x.state)) }
     ensures rest { IfOk result (λ x. RestSame (contents plan.now) state x.state) }
     ensures few { IfOk result (λ x. length x.rest.now ≤ length list.now) }
-    ensures left { IfOk result (λ x. x.rest.now ≡ drop (length list.now - length x.rest.now) list.now) }
+    ensures unused { IfOk result (λ x. x.rest.now ≡ drop (used_up list.now x.rest.now) list.now) }
 {
     let mut rest = list;
     for number in 1..=plan.count() {
@@ -77,9 +77,9 @@ pub fn unit_with<'l, D: Discipline>(
     list: &'l [u16],
 ) -> Result<Taken<'l>, Misfit>
     ensures steps { IfOk result (λ x. Step (contents plan.now) (D.first d.now) t (times (contents plan.now) state) (times (contents plan.now) x.state)) }
-    ensures given { MatchResult result (λ x. GivenThenServed (contents plan.now) (D.first d.now) t list.now state x.state (length list.now - length x.rest.now)) (StopsAt (contents plan.now) t list.now state.left) }
+    ensures given { MatchResult result (λ x. GivenThenServed (contents plan.now) (D.first d.now) t list.now state x.state (used_up list.now x.rest.now)) (StopsAt (contents plan.now) t list.now state.left) }
     ensures few { IfOk result (λ x. length x.rest.now ≤ length list.now) }
-    ensures left { IfOk result (λ x. x.rest.now ≡ drop (length list.now - length x.rest.now) list.now) }
+    ensures unused { IfOk result (λ x. x.rest.now ≡ drop (used_up list.now x.rest.now) list.now) }
 {
     let taken = start_with(plan, t, state, list)?;
     Ok(Taken {

@@ -83,10 +83,7 @@ fn misfit(plan: &Plan, times: &[u16]) -> Option<Misfit> {
     let d = Numbered {
         criterion: FixedPriority,
     };
-    match unit_with(plan, &d, 0, State::new(), times) {
-        Ok(_) => None,
-        Err(misfit) => Some(misfit),
-    }
+    unit_with(plan, &d, 0, State::new(), times).err()
 }
 
 #[test]
