@@ -11,7 +11,7 @@ use Rattle.std.specs.declared.str.SplitWhitespace.{SplitWhitespace}
 use Rattle.listing.specs.Taking.{StartsWithWord, SplitsInto}
 
 -- what the iterator over words says of one, as the record
-pub starts_from : (text word rest : List ℕ) → (gap : List ℕ) × (text ≡ gap ++ (word ++ rest)) × (0 < length word) × NoCharPasses is_not_whitespace gap × NoCharPasses is_whitespace word × ((more : List ℕ) × EmptyOrStartsWithPassing is_whitespace rest more)
+starts_from : (text word rest : List ℕ) → (gap : List ℕ) × (text ≡ gap ++ (word ++ rest)) × (0 < length word) × NoCharPasses is_not_whitespace gap × NoCharPasses is_whitespace word × ((more : List ℕ) × EmptyOrStartsWithPassing is_whitespace rest more)
     → StartsWithWord text word rest
 starts_from text word rest x = record { gap = x.0; split = x.1; nonempty = x.2; gap_is_blank = x.3; word_is_whole = x.4; rest_starts_blank = x.5 }
 

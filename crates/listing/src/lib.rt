@@ -1,7 +1,7 @@
 // A plan and the codes of its cores, read from text line by line.
 #![tactic(auto)]
 
-ghost use Rattle.std.specs.Prelude.{◌≡◌, ℕ, List, IfOk, OnErr, MatchResult};
+ghost use Rattle.std.specs.Prelude.{◌≡◌, ℕ, List, IfOk, OnErr, MatchResult, is_ok, if◌then◌else◌};
 ghost use Rattle.notation.specs.declared.HandlerLine.{HandlerLine};
 ghost use Rattle.notation.specs.declared.JoinLine.{JoinLine};
 ghost use Rattle.notation.specs.declared.CoreLine.{CoreLine};
@@ -17,6 +17,8 @@ use notation::{CoreLine, HandlerLine, JoinLine, Line, Problem, parse_words};
 use order::cores::Core;
 use plan::plans::Plan;
 use std::alloc::{AllocError, Global};
+use std::io;
+use std::process::ExitCode;
 use terms::handlers::Handler;
 use terms::refusals::Refusal;
 use thiserror::Error;
@@ -143,6 +145,20 @@ pub fn read(heap: Global, text: &str) -> anyhow::Result<Listing>
         ))?;
     }
     Ok(list)
+}
+
+/// Ends a program: where it failed, says why, once, on standard error, and the status is 1.
+pub fn finish(rt: &impl Eprint, outcome: anyhow::Result<()>) -> io::Result<ExitCode>
+    ensures { IfOk result (λ code. code ≡ (if is_ok outcome then ExitCode.SUCCESS else ExitCode.FAILURE)) }
+{
+    // An error that `main` returns is printed behind the word `Error`.
+    match outcome {
+        Ok(()) => Ok(ExitCode::SUCCESS),
+        Err(trouble) => {
+            eprintln!(rt; "{trouble}")?;
+            Ok(ExitCode::FAILURE)
+        }
+    }
 }
 
 #[cfg(test)]

@@ -3,7 +3,7 @@
 #![tactic(auto)]
 
 use banks::codes::code_bank;
-use listing::{Listing, read};
+use listing::{Listing, finish, read};
 use order::candidates::Candidate;
 use order::cores::Core;
 use order::disciplines::Discipline;
@@ -23,17 +23,18 @@ struct Account {
 
 impl fmt::Display for Account {
     fn fmt<W: fmt::Write>(&self, f: &mut fmt::Formatter<W>) -> fmt::Result {
-        let (cores, times, changes) = (self.cores, self.times, self.changes);
-        write!(f, "cores {cores}, times {times}, changes {changes}")
+        write!(
+            f,
+            "cores {}, times {}, changes {}",
+            self.cores, self.times, self.changes
+        )
     }
 }
 
 fn show(rt: &HostRuntime, core: Core, t: u64, row: &[Candidate]) -> io::Result<()> {
-    let number = core.number();
-    print!(rt; "core {number} at {t}:")?;
+    print!(rt; "core {} at {t}:", core.number())?;
     for candidate in row {
-        let handler = candidate.number();
-        print!(rt; " {handler}")?;
+        print!(rt; " {}", candidate.number())?;
     }
     println!(rt; "")
 }
@@ -61,16 +62,13 @@ fn show_changes<D: Discipline>(
 
 // The handlers of a core, in the order of their numbers.
 fn on_core(heap: Global, plan: &Plan, core: Core) -> Result<Vec<Candidate>, AllocError> {
-    let mut row = Vec::new(heap);
-    for number in 1..=plan.count() {
-        let (Some(handler), Some(candidate)) = (plan.handler(number), plan.candidate(number)) else {
-            continue;
-        };
-        if handler.core == core.number() {
-            row.push(candidate)?;
-        }
-    }
-    Ok(row)
+    (1..=plan.count())
+        .filter(|number| {
+            plan.handler(*number)
+                .is_some_and(|handler| handler.core == core.number())
+        })
+        .filter_map(|number| plan.candidate(number))
+        .collect(heap)
 }
 
 // Prints how many handlers there are, the round and the settling time, then each join.
@@ -84,10 +82,8 @@ fn show_plan(rt: &HostRuntime, plan: &Plan) -> io::Result<()> {
 }
 
 fn show_joins(rt: &HostRuntime, plan: &Plan, first: u8) -> io::Result<()> {
-    for second in 1..=plan.count() {
-        if plan.joined(first, second) {
-            println!(rt; "join {first} before {second}")?;
-        }
+    for second in (1..=plan.count()).filter(|second| plan.joined(first, *second)) {
+        println!(rt; "join {first} before {second}")?;
     }
     Ok(())
 }
@@ -96,44 +92,31 @@ impl Account {
     // Prints the orders of each core in use, over the settling time and one round.
     fn of(rt: &HostRuntime, list: &Listing) -> anyhow::Result<Account> {
         let bank = code_bank(&list.codes);
-        let times = list.plan.settling() as u64 + list.plan.round() as u64;
-        let mut cores: u64 = 0;
-        let mut changes: u64 = 0;
-        for number in 1..=8 {
-            let Some(core) = Core::new(number) else {
-                continue;
-            };
+        let mut account = Account {
+            cores: 0,
+            times: u64::from(list.plan.settling()) + u64::from(list.plan.round()),
+            changes: 0,
+        };
+        for core in Core::all() {
             let mut row = on_core(rt.alloc(), &list.plan, core)?;
-            if row.is_empty() {
-                continue;
+            if !row.is_empty() {
+                let changes = show_changes(rt, &bank, core, &mut row, account.times)?;
+                account.cores = account.cores.saturating_add(1);
+                account.changes = account.changes.saturating_add(changes);
             }
-            cores = cores.saturating_add(1);
-            changes = changes.saturating_add(show_changes(rt, &bank, core, &mut row, times)?);
         }
-        Ok(Account {
-            cores,
-            times,
-            changes,
-        })
+        Ok(account)
     }
 }
 
 fn run(rt: &HostRuntime) -> anyhow::Result<()> {
     let text = io::read_to_string(rt.alloc(), rt.stdin())?;
-    let list = read(rt.alloc(), text.as_str())?;
+    let list = read(rt.alloc(), &text)?;
     show_plan(rt, &list.plan)?;
-    let account = Account::of(rt, &list)?;
-    rt.println(account)?;
+    rt.println(Account::of(rt, &list)?)?;
     Ok(())
 }
 
-// A program that fails says why, once, and ends with status 1.
 fn main(rt: HostRuntime) -> io::Result<ExitCode> {
-    match run(&rt) {
-        Ok(()) => Ok(ExitCode::SUCCESS),
-        Err(trouble) => {
-            eprintln!(rt; "{trouble}")?;
-            Ok(ExitCode::FAILURE)
-        }
-    }
+    finish(&rt, run(&rt))
 }

@@ -4,7 +4,7 @@
 
 use anyhow::bail;
 use banks::codes::code_bank;
-use listing::read;
+use listing::{finish, read};
 use order::disciplines::Discipline;
 use plan::plans::Plan;
 use std::process::ExitCode;
@@ -41,28 +41,21 @@ struct Asked {
 
 // The numbers of the arguments; nothing where there are none.
 fn wanted_run(rt: &HostRuntime) -> anyhow::Result<Option<Asked>> {
-    let mut units = None;
-    let mut times = Vec::new(rt.alloc());
-    for word in env::args(rt)?.skip(1) {
-        let number = word.as_str().parse::<u16>()?;
-        if units.is_none() {
-            units = Some(number);
-        } else {
-            times.push(number)?;
-        }
-    }
-    match units {
-        None => Ok(None),
-        Some(units) => Ok(Some(Asked { units, times })),
-    }
+    let mut numbers = env::args(rt)?
+        .skip(1)
+        .map(|word| -> anyhow::Result<u16> { Ok(word.parse()?) });
+    let Some(units) = numbers.next().transpose()? else {
+        return Ok(None);
+    };
+    let times = numbers.try_collect(rt.alloc())?;
+    Ok(Some(Asked { units, times }))
 }
 
 // Prints the time left of each handler, and who is late.
 fn show_state(rt: &HostRuntime, plan: &Plan, t: u64, state: &State) -> io::Result<()> {
     print!(rt; "at {t}:")?;
     for number in 1..=plan.count() {
-        let left = state.time_left(number);
-        print!(rt; " {left}")?;
+        print!(rt; " {}", state.time_left(number))?;
         if late(plan, t, state, number) {
             print!(rt; " late")?;
         }
@@ -96,28 +89,14 @@ fn show_run<D: Discipline>(
 
 fn run(rt: &HostRuntime) -> anyhow::Result<()> {
     let text = io::read_to_string(rt.alloc(), rt.stdin())?;
-    let list = read(rt.alloc(), text.as_str())?;
-    if let Some(asked) = wanted_run(rt)? {
-        let units = asked.units;
-        let took = show_run(
-            rt,
-            &list.plan,
-            &code_bank(&list.codes),
-            units,
-            asked.times.as_slice(),
-        )?;
+    let list = read(rt.alloc(), &text)?;
+    if let Some(Asked { units, times }) = wanted_run(rt)? {
+        let took = show_run(rt, &list.plan, &code_bank(&list.codes), units, &times)?;
         println!(rt; "units {units}, starts {took}")?;
     }
     Ok(())
 }
 
-// A program that fails says why, once, and ends with status 1.
 fn main(rt: HostRuntime) -> io::Result<ExitCode> {
-    match run(&rt) {
-        Ok(()) => Ok(ExitCode::SUCCESS),
-        Err(trouble) => {
-            eprintln!(rt; "{trouble}")?;
-            Ok(ExitCode::FAILURE)
-        }
-    }
+    finish(&rt, run(&rt))
 }
