@@ -1,7 +1,10 @@
 -- What the calls of a plan tell of its contents, and a state in memory of the state that it holds.
-use Rattle.std.proofs.Common.{◌≡◌, ℕ, ◌+◌, ◌-◌, ◌<◌, ◌≤◌, Bool, true, not, ◌&&◌, ltb, leb, List, length, get_or, drop, Decides, sym, ap, ◌∙◌, subst, inl, inr, arith}
+use Rattle.std.proofs.Common.{◌≡◌, ℕ, ◌+◌, ◌-◌, ◌<◌, ◌≤◌, Bool, true, false, cond, not, ◌&&◌, ltb, leb, List, length, get_or, drop, Decides, MatchBool, MatchOption, IfSome, is_some, Some, None, Option, sym, refl, ap, ◌∙◌, subst, inl, inr, arith}
 use Prim.Native.Nat.{◌∣◌}
 use Rattle.std.proofs.lemmas.Bool.{leb-true, le-leb, ltb-true, lt-ltb, and_parts, and_from, not-true, not_from_false, cases_Bool, true≢false}
+use Rattle.std.proofs.lemmas.Bool.Decides.{nat_tests}
+use Rattle.std.proofs.lemmas.List.FromFn.{length-range_with_len, get_or-range_with_len}
+use Rattle.std.specs.List.{range_with_len, HoldsAt, AllWithin}
 use Rattle.std.proofs.lemmas.List.{get_or-take, length-take-le, get_or-drop, length-drop, ext_get_or}
 use Rattle.terms.specs.declared.handlers.Handler.{Handler}
 use Rattle.plan.specs.Contents.{Contents, Sound, count, at, known, Known, joins}
@@ -9,7 +12,7 @@ use Rattle.model.specs.Units.{left, Ready}
 use Rattle.model.specs.Runs.{Late}
 use Rattle.step.specs.declared.states.State.{State}
 use Rattle.step.specs.Memory.{times}
-use Rattle.step.specs.Choosing.{Blocks}
+use Rattle.step.specs.Choosing.{HoldsUp}
 
 pub known_from : (p : Contents) (n : ℕ) → true ≡ known p n → Known p n
 known_from p n e =
@@ -18,6 +21,12 @@ known_from p n e =
 
 pub known_test : (p : Contents) (n : ℕ) → Known p n → known p n ≡ true
 known_test p n k = and_from (leb 1 n) (leb n (count p)) (le-leb 1 n k.0) (le-leb n (count p) k.1)
+
+-- a test of the handler of a number, which fails where there is none
+pub of_handler : (p : Contents) (n : ℕ) {Q : Handler → Type 0} (P : Handler → Type 0) (x : Bool) (r : Option Handler)
+    → is_some r ≡ known p n → IfSome r (λ h. h ≡ at p (n - 1)) → MatchOption r (x ≡ false) Q → ((h : Handler) → Q h → Decides x (P h)) → Decides x (Known p n × P (at p (n - 1)))
+of_handler p n P x None test value e told = (λ t. absurd (true≢false (sym t ∙ e)), λ k. absurd (true≢false (sym (known_test p n k.0) ∙ sym test)))
+of_handler p n P x (Some h) test value q told = (λ t. (known_from p n test, subst P value ((told h q).0 t)), λ k. (told h q).1 (subst P (sym value) k.1))
 
 -- the handlers of a plan have a place in a state
 pub times_long : (p : Contents) → Sound p → (s : State) → length (times p s) ≡ count p
@@ -42,38 +51,47 @@ joins_at p a b =
     ap (λ x. x && (leb 1 (b + 1) && p.joined (a + 1 - 1) (b + 1 - 1))) la ∙ ap (λ x. x && p.joined (a + 1 - 1) (b + 1 - 1)) lb
     ∙ ap (λ x. p.joined x (b + 1 - 1)) (place_of a) ∙ ap (p.joined a) (place_of b)
 
+module _ (p : Contents) (ok : Sound p) (s : State) where
+  -- what `time_left` answers
+  abbrev pub kept : ℕ → ℕ
+  kept n = cond (leb 1 n && leb n 64) (get_or s.left (n - 1) 0) 0
+
+  pub kept_is : (n : ℕ) → Known p n → kept n ≡ left (times p s) (n - 1)
+  kept_is n k = let e = get_or-take (count p) s.left (n - 1) 0 (omega (arith, k.0, k.1)) in let f = ok.few in grind (arith, nat_tests)
+
+  pub joins_known : (a b : ℕ) → joins p a b ≡ true → Known p a × Known p b
+  joins_known a b j = let i = ok.inside (a - 1) (b - 1) in grind (arith, nat_tests, i)
+
+  -- what the test of one handler tells
+  pub holds_up : (a b : ℕ) (x : Bool) → x ≡ (joins p a b && ltb 0 (kept a)) → Decides x (HoldsUp p (times p s) a b)
+  holds_up a b x e = let k = λ (j : joins p a b ≡ true). kept_is a (joins_known a b j).0 in grind (arith, nat_tests, k)
+
+-- what `any` tells of the numbers 1 to n, where they are counted from 0
+pub any_number : (n : ℕ) (P : ℕ → Type 0) → ((a : ℕ) → P a → (1 ≤ a) × (a ≤ n)) → (r : Bool)
+    → MatchBool r ((k : ℕ) × (k < length (range_with_len 0 n)) × HoldsAt (λ i. P (i + 1)) (range_with_len 0 n) k) (AllWithin (λ i. ¬ P (i + 1)) (range_with_len 0 n) 0 (length (range_with_len 0 n)))
+    → Decides r ((a : ℕ) × P a)
+any_number n P known true h = (λ _. (get_or (range_with_len 0 n) h.0 0 + 1, h.2 0), λ _. refl)
+any_number n P known false h = (
+  λ e. absurd (true≢false (sym e)),
+  λ (a, x). let k = known a x in let e : a ≡ get_or (range_with_len 0 n) (a - 1) 0 + 1 = omega (arith, k.0, k.1, get_or-range_with_len 0 n (a - 1) 0) in
+      absurd (h (a - 1) 0 (omega arith) (omega (arith, length-range_with_len 0 n, k.0, k.1)) (subst P e x)),
+)
+
 -- ---- who is ready
 
-module _ (p : Contents) (s : State) (i : ℕ) (inside : i < count p) where
-  pub has_left : Decides (ltb 0 (get_or s.left i 0)) (0 < left (times p s) i)
-  has_left =
-      let e = times_left p s i inside in
-      (λ b. subst (λ x. 0 < x) (sym e) (ltb-true 0 (get_or s.left i 0) b), λ h. lt-ltb 0 (get_or s.left i 0) (subst (λ x. 0 < x) e h))
-
-  pub ready_told : (w : Bool) → Decides w ((a : ℕ) × Blocks p (times p s) a i) → 0 < get_or s.left i 0 → Decides (not w) (Ready p (times p s) i)
-  ready_told w told h = (
-    λ b. record {
-      working = subst (λ x. 0 < x) (sym (times_left p s i inside)) h;
-      waits = λ a j. let no_time : ¬ (0 < left (times p s) a) = λ l. true≢false (sym (told.1 (a, (j, l))) ∙ not-true w b) in omega arith;
-    },
-    λ r. elim (cases_Bool w) [
-      | inl e ↦ absurd (let x = told.0 e in let z : left (times p s) x.0 ≡ 0 = r.waits x.0 x.1.0 in omega (arith, x.1.1))
+module _ (p : Contents) (ok : Sound p) (s : State) (n : ℕ) (known : Known p n) where
+  pub ready_told : 0 < kept p ok s n → (w : Bool) → Decides w ((a : ℕ) × HoldsUp p (times p s) a n) → Decides (not w) (Known p n × Ready p (times p s) (n - 1))
+  ready_told works w told = (
+    λ b. (
+      known,
+      record {
+        working = subst (λ x. 0 < x) (kept_is p ok s n known) works;
+        waits = λ a j. let none : ¬ (0 < left (times p s) a) = λ l. true≢false (sym (told.1 (a + 1, (grind (arith, nat_tests, known), grind arith))) ∙ not-true w b) in omega arith;
+      },
+    ),
+    λ (_, r). elim (cases_Bool w) [
+      | inl e ↦ (let x = told.0 e in let z = r.waits (x.0 - 1) (grind (arith, nat_tests)) in absurd (omega (arith, x.1.1, z)))
       | inr e ↦ not_from_false w e
     ],
   )
 
--- ---- who is late
-
-module _ (p : Contents) (t : ℕ) (s : State) (i : ℕ) (inside : i < count p) (h : Handler) (is : h ≡ at p i) where
-  -- a period of the handler ends
-  abbrev pub Due : Handler → Type 0
-  Due g = (g.offset + g.period ≤ t) × (g.period ∣ t - g.offset)
-
-  pub late_due : Late p t (times p s) i → Due h
-  late_due l = subst Due (sym is) (l.due, l.turn)
-
-  pub late_told : Due h → Decides (ltb 0 (get_or s.left i 0)) (Late p t (times p s) i)
-  late_told due =
-      let told = has_left p s i inside in
-      let d = subst Due is due in
-      (λ b. record { known = inside; due = d.0; turn = d.1; working = told.0 b }, λ l. told.1 l.working)

@@ -7,20 +7,12 @@ ghost use Rattle.model.specs.Units.{Starts};
 use plan::plans::Plan;
 use terms::handlers::Handler;
 
-// Whether `t` is a whole number of periods after `from`.
-fn comes_round(period: u64, from: u64, t: u64) -> bool
-    requires { 1 ≤ period }
-    ensures { Decides result ((from ≤ t) × (period ∣ t - from)) }
-{
-    t >= from && (t - from) % period == 0
-}
-
 // Whether a period of the handler begins at `t`.
 pub(crate) fn begins(handler: Handler, t: u64) -> bool
-    requires { 1 ≤ handler.period }
     ensures { Decides result ((handler.offset ≤ t) × (handler.period ∣ t - handler.offset)) }
 {
-    comes_round(handler.period as u64, handler.offset as u64, t)
+    t.checked_sub(handler.offset as u64)
+        .is_some_and(|since| since.is_multiple_of(handler.period as u64))
 }
 
 // The handler of this number, if it starts at `t`.
@@ -34,8 +26,5 @@ pub(crate) fn starter(plan: &Plan, number: u8, t: u64) -> Option<Handler>
 pub fn starts(plan: &Plan, number: u8, t: u64) -> bool
     ensures { Decides result (Known (contents plan.now) number × Starts (contents plan.now) t (number - 1)) }
 {
-    match plan.handler(number) {
-        Some(handler) => begins(handler, t),
-        None => false,
-    }
+    plan.handler(number).is_some_and(|handler| begins(handler, t))
 }

@@ -1,5 +1,5 @@
 // The first state, and reading one.
-ghost use Rattle.std.specs.Prelude.{◌≡◌, ◌-◌, ◌&&◌, leb, replicate, if◌then◌else◌, nat_le, slice_index};
+ghost use Rattle.std.specs.Prelude.{◌≡◌, ◌-◌, ◌&&◌, leb, if◌then◌else◌, nat_le, slice_index};
 ghost use Rattle.plan.specs.Contents.{Contents, Sound};
 ghost use Rattle.model.specs.Units.{zeros};
 ghost use Rattle.model.specs.Theorems.{BeginningsGoOn, OneRuns, SomeoneIsReady, UnitsRepeat};
@@ -9,20 +9,6 @@ ghost use Rattle.step.specs.Memory.{times};
 use crate::states::State;
 
 impl State {
-    fn of_zeros(left: [u16; 64]) -> State
-        requires { left ≡ replicate 64 0 }
-        ensures begins { (p : Contents) → Sound p → times p result ≡ zeros p }
-        ensures goes_on { BeginningsGoOn }
-        ensures one_runs { OneRuns }
-        ensures someone_ready { SomeoneIsReady }
-        ensures repeats { UnitsRepeat }
-        ensures article { ArticleAgrees }
-        ensures article_codes { ArticleAgreesByCodes }
-        ensures letter { LetterDiffers }
-    {
-        State { left }
-    }
-
     /// The state at time 0, with which every run begins: nobody has time left.
     pub fn new() -> State
         ensures begins { (p : Contents) → Sound p → times p result ≡ zeros p }
@@ -34,16 +20,16 @@ impl State {
         ensures article_codes { ArticleAgreesByCodes }
         ensures letter { LetterDiffers }
     {
-        State::of_zeros([0; 64])
+        State { left: [0; 64] }
     }
 
     /// The time left of the handler of this number; 0 for number 0 and above 64.
     pub fn time_left(&self, number: u8) -> u16
         ensures { result ≡ (if leb 1 number && nat_le number 64 then slice_index self.now.left (number - 1) else 0) }
     {
-        if number == 0 || number > 64 {
-            return 0;
+        match number {
+            1..=64 => self.left[number as usize - 1],
+            _ => 0,
         }
-        self.left[number as usize - 1]
     }
 }

@@ -7,11 +7,11 @@ use Rattle.model.proofs.Waiting.{someone_is_ready}
 use Rattle.model.proofs.Repeat.{units_repeat}
 use Rattle.traces.proofs.Same.{article_agrees, article_agrees_by_codes}
 use Rattle.traces.proofs.Letter.{letter_differs}
-use Rattle.step.proofs.states.State.of_zeros.Goals as goal
+use Rattle.step.proofs.states.State.new.Goals as goal
 
 pub returns : goal.returns
 returns c = record {
-  begins = λ p ok. ap (take (count p)) c.requires ∙ take-replicate (count p) 64 0 ok.few;
+  begins = λ p ok. ap (take (count p)) (cc) ∙ take-replicate (count p) 64 0 ok.few;
   goes_on = beginnings_go_on;
   one_runs = one_runs;
   someone_ready = someone_is_ready;
