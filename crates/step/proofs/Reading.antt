@@ -1,7 +1,6 @@
 -- What the calls of a plan tell of its contents, and a state in memory of the state that it holds.
 use Rattle.std.proofs.Common.{◌≡◌, ℕ, ◌+◌, ◌-◌, ◌<◌, ◌≤◌, Bool, true, false, cond, not, ◌&&◌, ltb, leb, List, length, get_or, drop, Decides, MatchBool, MatchOption, IfSome, is_some, Some, None, Option, sym, refl, ap, ◌∙◌, subst, inl, inr, arith}
-use Prim.Native.Nat.{◌∣◌}
-use Rattle.std.proofs.lemmas.Bool.{leb-true, le-leb, ltb-true, lt-ltb, and_parts, and_from, not-true, not_from_false, cases_Bool, true≢false}
+use Rattle.std.proofs.lemmas.Bool.{leb-true, le-leb, and_parts, and_from, not-true, not_from_false, cases_Bool, true≢false}
 use Rattle.std.proofs.lemmas.Bool.Decides.{nat_tests}
 use Rattle.std.proofs.lemmas.List.FromFn.{length-range_with_len, get_or-range_with_len}
 use Rattle.std.specs.List.{range_with_len, HoldsAt, AllWithin}
@@ -9,7 +8,6 @@ use Rattle.std.proofs.lemmas.List.{get_or-take, length-take-le, get_or-drop, len
 use Rattle.terms.specs.declared.handlers.Handler.{Handler}
 use Rattle.plan.specs.Contents.{Contents, Sound, count, at, known, Known, joins}
 use Rattle.model.specs.Units.{left, Ready}
-use Rattle.model.specs.Runs.{Late}
 use Rattle.step.specs.declared.states.State.{State}
 use Rattle.step.specs.Memory.{times}
 use Rattle.step.specs.Choosing.{HoldsUp}

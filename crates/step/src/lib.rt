@@ -5,7 +5,6 @@ pub mod choosing;
 pub mod following;
 pub mod given;
 pub mod lateness;
-mod places;
 pub mod serving;
 pub mod starting;
 pub mod states;

@@ -1,5 +1,5 @@
-use Rattle.std.proofs.Common.{ℕ, ◌+◌, ◌-◌, ◌≡◌, Some, None, Option, sym, refl, subst, rules, tests, arith}
-use Rattle.plan.specs.Contents.{contents, count, Known, StandsFor}
+use Rattle.std.proofs.Common.{◌+◌, ◌-◌, Some, None, refl, rules, tests, arith}
+use Rattle.plan.specs.Contents.{contents, count, StandsFor}
 use Rattle.step.specs.Memory.{times}
 use Rattle.step.specs.Choosing.{Contends, FirstBelow}
 use Rattle.step.proofs.Reducing.{reduced}

@@ -1,4 +1,4 @@
-use Rattle.std.proofs.Common.{rules, tests, ◌≡◌, ℕ, ◌+◌, true, false, sym, arith}
+use Rattle.std.proofs.Common.{rules, tests, ℕ, ◌+◌, true, false, sym, arith}
 use Rattle.std.proofs.lemmas.Bool.{true≢false}
 use Rattle.std.proofs.lemmas.Iterator.{cases_from_any, YieldsList-from_range}
 use Rattle.plan.specs.Contents.{contents, count}
