@@ -2,35 +2,16 @@
 // and the times that the starts take.
 #![tactic(auto)]
 
-use anyhow::bail;
+use anyhow::anyhow;
 use banks::codes::code_bank;
 use listing::{finish, read};
 use order::disciplines::Discipline;
 use plan::plans::Plan;
 use std::process::ExitCode;
-use std::{env, fmt, io};
-use step::given::{Misfit, unit_with};
+use std::{env, io};
+use step::given::unit_with;
 use step::lateness::late;
 use step::states::State;
-
-// What is wrong with a list of times.
-#[derive(Drop)]
-struct Unfit(Misfit);
-
-impl fmt::Display for Unfit {
-    fn fmt<W: fmt::Write>(&self, f: &mut fmt::Formatter<W>) -> fmt::Result {
-        match self.0 {
-            Misfit::Ended { number } => write!(
-                f,
-                "no time is left for the start of handler {number}"
-            ),
-            Misfit::Outside { number, time } => write!(
-                f,
-                "handler {number} cannot take the time {time}"
-            ),
-        }
-    }
-}
 
 // What the arguments ask for: a run of so many units, in which the starts take these times.
 #[derive(Drop)]
@@ -75,13 +56,11 @@ fn show_run<D: Discipline>(
     let mut rest = times;
     for t in 0..units as u64 {
         show_state(rt, plan, t, &state)?;
-        match unit_with(plan, d, t, state, rest) {
-            Ok(taken) => {
-                state = taken.state;
-                rest = taken.rest;
-            }
-            Err(misfit) => bail!("at {t}: {}", Unfit(misfit)),
-        }
+        let taken = unit_with(plan, d, t, state, rest).map_err(|misfit| anyhow!(
+            "at {t}: {misfit}"
+        ))?;
+        state = taken.state;
+        rest = taken.rest;
     }
     show_state(rt, plan, units as u64, &state)?;
     Ok(times.len().saturating_sub(rest.len()))

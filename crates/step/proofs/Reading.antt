@@ -92,4 +92,3 @@ module _ (p : Contents) (ok : Sound p) (s : State) (n : ℕ) (known : Known p n)
       | inr e ↦ not_from_false w e
     ],
   )
-

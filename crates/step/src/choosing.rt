@@ -43,6 +43,10 @@ pub fn choice<D: Discipline>(plan: &Plan, d: &D, core: Core, t: u64, state: &Sta
 {
     (1..=plan.count())
         .filter_map(|number| contender(plan, state, core, number))
-        .reduce(|best, next| if d.goes_first(core, best, next, t) { best } else { next })
+        .reduce(|best, next| if d.goes_first(core, best, next, t) {
+            best
+        } else {
+            next
+        })
         .map(|first| first.number())
 }

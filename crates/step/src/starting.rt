@@ -26,5 +26,6 @@ pub(crate) fn starter(plan: &Plan, number: u8, t: u64) -> Option<Handler>
 pub fn starts(plan: &Plan, number: u8, t: u64) -> bool
     ensures { Decides result (Known (contents plan.now) number × Starts (contents plan.now) t (number - 1)) }
 {
-    plan.handler(number).is_some_and(|handler| begins(handler, t))
+    plan.handler(number)
+        .is_some_and(|handler| begins(handler, t))
 }

@@ -17,6 +17,6 @@ returns g c =
     let best = reduced _ _ _ _ (count p) (FirstBelow p D t u k)
     (λ n b q l called. (search rules, turn_skips p D law t u k n l b (search rules)))
     (λ n x q l called. let is : Contends p u k (n + 1 - 1) × StandsFor x p (n + 1) = search rules in
-        (search rules, (turn_takes p D law t u k n None x x is refl, λ b y h asked. (search rules, turn_takes p D law t u k n (Some b) x y is (search (rules, tests))))))
+    (search rules, (turn_takes p D law t u k n None x x is refl, λ b y h asked. (search rules, turn_takes p D law t u k n (Some b) x y is (search (rules, tests))))))
     c.filter_map.result c.reduce.result (cc) (cc) (cc) c.filter_map.ensures.closure c.reduce.ensures.ran (λ i l. absurd (omega arith)) in
     first_runs p D law t u k c.reduce.result c.map.result best (search (rules, tests))
