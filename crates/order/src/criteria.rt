@@ -16,6 +16,7 @@ use std::cmp::Ordering;
 
 /// Ranks any two candidates of a core at any time: `Less` where the first is ahead of the second, `Equal` where they
 /// are level, `Greater` where it is behind. `ranks` is its meaning: nothing else enters an answer.
+// A question is four parameters and no struct: the laws exchange two of them and move the fourth.
 pub trait Criterion {
     ghost ranks: { Self → Core → Candidate → Candidate → ℕ → Ordering };
 
@@ -42,6 +43,7 @@ impl Criterion for FixedPriority {
     }
 }
 
+// A type of its own beside `FixedPriority`: a trait for the number to compare by would be longer than what differs.
 /// Rate-monotonic, code 2: the shorter period is ahead, and equal periods are level.
 #[derive(Clone, Copy)]
 pub struct RateMonotonic;
