@@ -7,6 +7,7 @@ ghost use Rattle.notation.specs.declared.JoinLine.{JoinLine};
 ghost use Rattle.notation.specs.declared.CoreLine.{CoreLine};
 ghost use Rattle.notation.specs.declared.Line.{Line};
 ghost use Rattle.listing.specs.declared.Listing.{Listing};
+ghost use Rattle.listing.specs.declared.Trouble.TheVariants.{Words, Refused, Memory};
 ghost use Rattle.std.specs.Str.Lines.{lines};
 ghost use Rattle.notation.specs.Lines.{texts, Says};
 ghost use Rattle.listing.specs.Taking.{byte_of, before_comment, IsNew, TookHandler, TookJoin, TookCode, Took, RefusesHandler, RefusesJoin, RefusesCode, Refuses, SplitsInto, TookText, Lists};
@@ -16,7 +17,7 @@ use banks::codes::Code;
 use notation::{CoreLine, HandlerLine, JoinLine, Line, Problem, parse_words};
 use order::cores::Core;
 use plan::plans::Plan;
-use std::alloc::{AllocError, Global};
+use std::alloc::{AllocError, AllocFailed, Global};
 use std::io;
 use std::process::ExitCode;
 use terms::handlers::Handler;
@@ -43,6 +44,39 @@ pub enum Trouble {
     NoCode(u16),
     #[error("out of memory")]
     Memory,
+}
+
+// By hand and not by `#[from]`, whose impls have no contract: clauses say which error a `?` passes on.
+impl From<AllocError> for Trouble {
+    ghost from_gives = { λ _ e. e ≡ Memory };
+
+    fn from(_e: AllocError) -> Trouble {
+        Trouble::Memory
+    }
+}
+
+impl<T: Drop> From<AllocFailed<T>> for Trouble {
+    ghost from_gives = { λ _ e. e ≡ Memory };
+
+    fn from(_e: AllocFailed<T>) -> Trouble {
+        Trouble::Memory
+    }
+}
+
+impl From<Problem> for Trouble {
+    ghost from_gives = { λ problem e. e ≡ Words problem };
+
+    fn from(e: Problem) -> Trouble {
+        Trouble::Words(e)
+    }
+}
+
+impl From<Refusal> for Trouble {
+    ghost from_gives = { λ refusal e. e ≡ Refused refusal };
+
+    fn from(e: Refusal) -> Trouble {
+        Trouble::Refused(e)
+    }
 }
 
 // The number as a byte. What does not fit becomes 255, which is no core, no code and no handler either.
@@ -74,7 +108,7 @@ impl Listing {
             longest: line.longest,
             core: byte(line.core),
         };
-        self.plan.register(handler).map_err(Trouble::Refused)?;
+        self.plan.register(handler)?;
         Ok(())
     }
 
@@ -82,9 +116,8 @@ impl Listing {
         ensures took { MatchResult result (λ _. TookJoin line self.old self.new) (RefusesJoin line self.old) }
         ensures same { OnErr result (self.new ≡ self.old) }
     {
-        self.plan
-            .join(byte(line.first), byte(line.second))
-            .map_err(Trouble::Refused)
+        self.plan.join(byte(line.first), byte(line.second))?;
+        Ok(())
     }
 
     fn set_code(&mut self, line: CoreLine) -> Result<(), Trouble>
@@ -115,8 +148,8 @@ impl Listing {
         ensures took { IfOk result (λ _. TookText text.now self.old self.new) }
         ensures same { OnErr result (self.new ≡ self.old) }
     {
-        let words = words(heap, before_comment(text)).map_err(|_| Trouble::Memory)?;
-        let line = parse_words(&words).map_err(Trouble::Words)?;
+        let words = words(heap, before_comment(text))?;
+        let line = parse_words(&words)?;
         self.take(line)
     }
 }
