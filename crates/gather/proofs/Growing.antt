@@ -8,15 +8,6 @@ use Rattle.gather.specs.Levels.{Once, Filled}
 use Rattle.gather.specs.Growth.{Grown, Overfull}
 
 module _ {A : Type 0} where
-  grown_none : (front : List A) → Grown front [] front
-  grown_none front = record {
-    begins = take_all (length front) front (omega arith);
-    once = λ h. h;
-    old = λ x h. h;
-    new = λ x h. absurd (omega (arith, h.1));
-    only = λ x h. inl h;
-  }
-
   pub once_push : (xs : List A) (x : A) → Once xs → (Has xs x → ⊥) → Once (xs ++ x ∷ [])
   once_push xs x once lacks i j d lt end e =
       let len : length (xs ++ x ∷ []) ≡ length xs + 1 = length_push xs x in
@@ -31,54 +22,37 @@ module _ {A : Type 0} where
 
   -- ---- one element
 
-  module _ (front : List A) (x : A) where
-    only_one : (y : A) → Has (x ∷ []) y → x ≡ y
-    only_one y h = let at : h.0 ≡ 0 = omega (arith, h.1) in subst (λ k. get_or (x ∷ []) k y ≡ y) at h.2
-
-    grown_here : Has front x → Grown front (x ∷ []) front
-    grown_here here = record {
-      begins = take_all (length front) front (omega arith);
-      once = λ h. h;
-      old = λ y h. h;
-      new = λ y h. subst (Has front) (only_one y h) here;
-      only = λ y h. inl h;
+  module _ (front : List A) (x : A) (lacks : Has front x → ⊥) where
+    grown_push : Grown front (x ∷ []) (front ++ x ∷ [])
+    grown_push = record {
+      begins = take-append-le (length front) front (x ∷ []) (omega arith) ∙ take_all (length front) front (omega arith);
+      once = λ h. once_push front x h lacks;
+      old = λ y h. Contains-append_left front (x ∷ []) y h;
+      new = λ y h. Contains-append_right front (x ∷ []) y h;
+      only = λ y h. Contains-append_cases front (x ∷ []) y h;
     }
 
-    module _ (lacks : Has front x → ⊥) where
-      grown_push : Grown front (x ∷ []) (front ++ x ∷ [])
-      grown_push = record {
-        begins = take-append-le (length front) front (x ∷ []) (omega arith) ∙ take_all (length front) front (omega arith);
-        once = λ h. once_push front x h lacks;
-        old = λ y h. Contains-append_left front (x ∷ []) y h;
-        new = λ y h. Contains-append_right front (x ∷ []) y h;
-        only = λ y h. Contains-append_cases front (x ∷ []) y h;
-      }
-
-      overfull_one : Overfull front (x ∷ []) front
-      overfull_one = record {
-        once = λ h. h;
-        old = λ y h. h;
-        only = λ y h. inl h;
-        extra = x;
-        there = (0, omega arith, refl);
-        lacks = lacks;
-      }
+    overfull_one : Overfull front (x ∷ []) front
+    overfull_one = record {
+      once = λ h. h;
+      old = λ y h. h;
+      only = λ y h. inl h;
+      extra = x;
+      there = (0, omega arith, refl);
+      lacks = lacks;
+    }
 
   -- the same of the first n rows of a slice
-  module _ (rows : List A) (n : ℕ) (x : A) where
-    pub filled_here : n ≤ length rows → Has (take n rows) x → Filled n rows rows (Grown (take n rows) (x ∷ []))
-    filled_here fits here = record { fits = fits; front = grown_here (take n rows) x here; rest = refl }
+  module _ (rows : List A) (n : ℕ) (x : A) (lacks : Has (take n rows) x → ⊥) where
+    pub filled_push : n < length rows → Filled (n + 1) (set rows n x) rows (Grown (take n rows) (x ∷ []))
+    filled_push lt = record {
+      fits = omega (arith, length-set rows n x);
+      front = rw (take_more_set rows n x lt) (grown_push (take n rows) x lacks);
+      rest = drop-set-lt (n + 1) rows n x (omega arith);
+    }
 
-    module _ (lacks : Has (take n rows) x → ⊥) where
-      pub filled_push : n < length rows → Filled (n + 1) (set rows n x) rows (Grown (take n rows) (x ∷ []))
-      filled_push lt = record {
-        fits = omega (arith, length-set rows n x);
-        front = subst (Grown (take n rows) (x ∷ [])) (sym (take_more_set rows n x lt)) (grown_push (take n rows) x lacks);
-        rest = drop-set-lt (n + 1) rows n x (omega arith);
-      }
-
-      pub overfull_from : n ≡ length rows → Overfull (take n rows) (x ∷ []) rows
-      overfull_from full = subst (Overfull (take n rows) (x ∷ [])) (take_all n rows (omega (arith, full))) (overfull_one (take n rows) x lacks)
+    pub overfull_from : n ≡ length rows → Overfull (take n rows) (x ∷ []) rows
+    overfull_from full = subst (Overfull (take n rows) (x ∷ [])) (take_all n rows (omega (arith, full))) (overfull_one (take n rows) x lacks)
 
   -- ---- element after element
 
@@ -125,29 +99,22 @@ module _ {A : Type 0} where
     pub filled : Filled n found was (Grown (take n₀ was) (take i xs))
     pub whole : length found ≡ length was
 
-  pub kept_none : (n : ℕ) (was xs : List A) → n ≤ length was → Kept n was xs 0 n was
-  kept_none n was xs fits = record { more = omega arith; filled = record { fits = fits; front = grown_none (take n was); rest = refl }; whole = refl }
+  module _ {n₀ : ℕ} {was xs : List A} {i n : ℕ} {found : List A} (kept : Kept n₀ was xs i n found) {x : A} (lt : i < length xs) (is : x ≡ get_or xs i x) where
+    seen_more : take (i + 1) xs ≡ take i xs ++ x ∷ []
+    seen_more = take_more xs i x lt ∙ ap (λ y. take i xs ++ y ∷ []) (sym is)
 
-  module _ {n₀ : ℕ} {was xs : List A} {i n : ℕ} {found : List A} (kept : Kept n₀ was xs i n found) where
-    pub kept_all : length xs ≤ i → (n₀ ≤ n) × Filled n found was (Grown (take n₀ was) xs)
-    kept_all le = (kept.more, rw (take_all i xs le) at kept.filled)
+    pub kept_more : {n' : ℕ} {found' : List A} → (n ≤ n') × Filled n' found' found (Grown (take n found) (x ∷ [])) → length found' ≡ length found → Kept n₀ was xs (i + 1) n' found'
+    kept_more {n'} {found'} add len = record {
+      more = omega (arith, kept.more, add.0);
+      filled = record {
+        fits = add.1.fits;
+        front = rw seen_more (grown_join (take n₀ was) (take i xs) (take n found) kept.filled.front (x ∷ []) (take n' found') add.1.front);
+        rest = add.1.rest ∙ drop_further n n' found was add.0 kept.filled.rest;
+      };
+      whole = len ∙ kept.whole;
+    }
 
-    module _ {x : A} (lt : i < length xs) (is : x ≡ get_or xs i x) where
-      seen_more : take (i + 1) xs ≡ take i xs ++ x ∷ []
-      seen_more = take_more xs i x lt ∙ ap (λ y. take i xs ++ y ∷ []) (sym is)
-
-      pub kept_more : {n' : ℕ} {found' : List A} → (n ≤ n') × Filled n' found' found (Grown (take n found) (x ∷ [])) → length found' ≡ length found → Kept n₀ was xs (i + 1) n' found'
-      kept_more {n'} {found'} add len = record {
-        more = omega (arith, kept.more, add.0);
-        filled = record {
-          fits = add.1.fits;
-          front = rw seen_more (grown_join (take n₀ was) (take i xs) (take n found) kept.filled.front (x ∷ []) (take n' found') add.1.front);
-          rest = add.1.rest ∙ drop_further n n' found was add.0 kept.filled.rest;
-        };
-        whole = len ∙ kept.whole;
-      }
-
-      pub kept_over : {found' : List A} → Overfull (take n found) (x ∷ []) found' → Overfull (take n₀ was) xs found'
-      kept_over {found'} o =
-          let all : (take i xs ++ x ∷ []) ++ drop (i + 1) xs ≡ xs = ap (λ l. l ++ drop (i + 1) xs) (sym seen_more) ∙ take-append-drop (i + 1) xs in
-          rw all at (overfull_join (take n₀ was) (take i xs) (take n found) kept.filled.front (x ∷ []) found' (drop (i + 1) xs) o)
+    pub kept_over : {found' : List A} → Overfull (take n found) (x ∷ []) found' → Overfull (take n₀ was) xs found'
+    kept_over {found'} o =
+        let all : (take i xs ++ x ∷ []) ++ drop (i + 1) xs ≡ xs = ap (λ l. l ++ drop (i + 1) xs) (sym seen_more) ∙ take-append-drop (i + 1) xs in
+        rw all at (overfull_join (take n₀ was) (take i xs) (take n found) kept.filled.front (x ∷ []) found' (drop (i + 1) xs) o)

@@ -1,7 +1,6 @@
 pub mod Answered
 pub mod Blanks
 pub mod Changes
-pub mod Closing
 pub mod Facts
 pub mod Histories
 pub mod Kept

@@ -1,5 +1,5 @@
 // Joins, and where they lead.
-ghost use Rattle.std.specs.Prelude.{◌≡◌, ◌↔◌, IsTrue, ℕ, ◌-◌, ◌<◌, true, Ok, Err, Decides, MatchResult};
+ghost use Rattle.std.specs.Prelude.{◌≡◌, ℕ, ◌-◌, ◌<◌, true, Ok, Err, Decides, MatchResult};
 ghost use Rattle.terms.specs.declared.handlers.Handler.{Handler};
 ghost use Rattle.plan.specs.Joins.{joined_in, Leads};
 ghost use Rattle.plan.specs.Routes.{Led, Follows};
@@ -16,7 +16,7 @@ use terms::refusals::Refusal;
 // Whether one of `from` is joined before `to`.
 fn led(joins: &[[bool; 64]; 64], from: &[u8], to: u8) -> bool
     requires { to < 64 }
-    ensures { IsTrue result ↔ Led joins.now from.now to }
+    ensures { Decides result (Led joins.now from.now to) }
 {
     from.iter()
         .any(|a| *a < 64 && joins[*a as usize][to as usize])

@@ -1,9 +1,6 @@
-use Rattle.std.proofs.Common.{refl, ◌∙◌, arith}
-use Rattle.gather.proofs.Growing.{kept_none, kept_all, kept_more, kept_over}
+use Rattle.std.proofs.Common.{◌∙◌}
+use Rattle.gather.proofs.Growing.{kept_more, kept_over}
 use Rattle.gather.proofs.Found.absorb.Goals as goal
-
-pub loop-element-init : goal.loop-element-init
-loop-element-init g c = record { same = refl; kept = kept_none c.args.self.now.count c.args.self.now.rows.now c.args.level.now c.args.self.now.fits }
 
 pub returns-in_err-insert-clause-adds : goal.returns-in_err-insert-clause-adds
 returns-in_err-insert-clause-adds g c =
@@ -16,6 +13,3 @@ loop-element-preserved g c =
       same = h.same ∙ c.loop-element.invariant.same;
       kept = kept_more c.loop-element.invariant.kept c.loop-element-test.true c.element-item.is h.adds h.whole;
     }
-
-pub returns-clause-adds : goal.returns-clause-adds
-returns-clause-adds g c = kept_all c.loop-element.invariant.kept (omega arith)

@@ -1,6 +1,6 @@
 use Rattle.std.proofs.Common.{arith}
 use Rattle.std.proofs.lemmas.Bool.Decides.{not_from_Decides}
-use Rattle.gather.proofs.Growing.{filled_here, filled_push, overfull_from}
+use Rattle.gather.proofs.Growing.{filled_push, overfull_from}
 use Rattle.gather.proofs.Found.insert.Goals as goal
 
 pub returns-then-self-clause-adds : goal.returns-then-self-clause-adds
@@ -8,6 +8,3 @@ returns-then-self-clause-adds g c = overfull_from _ _ _ (not_from_Decides _ c.co
 
 pub returns-else-self-clause-adds : goal.returns-else-self-clause-adds
 returns-else-self-clause-adds g c = (omega arith, filled_push _ _ _ (not_from_Decides _ c.contains.ensures c.if-not-contains.true) (omega arith))
-
-pub returns-else-not-contains-clause-adds : goal.returns-else-not-contains-clause-adds
-returns-else-not-contains-clause-adds g c = (omega arith, filled_here _ _ _ c.args.self.now.fits (c.contains.ensures.0 c.if-not-contains.false))
