@@ -84,6 +84,7 @@ impl<T: Element> Found<'_, T> {
             if self.count == self.rows.len() {
                 return None;
             }
+            // By its place: of a slice whose `get_mut` was asked, a proof knows no element any more.
             self.rows[self.count] = *element;
             self.count += 1;
         }

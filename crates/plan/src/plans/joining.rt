@@ -27,6 +27,7 @@ fn follow(joins: &[[bool; 64]; 64], from: &[u8]) -> ArrayVec<u8, 64>
     ensures { Follows joins.now from.now result.items }
 {
     let mut next = ArrayVec::new();
+    // A loop, since `extend` and `collect` answer a `Result` that has nowhere to go here.
     for b in 0..64 {
         if led(joins, from, b) {
             next.push(b);
@@ -76,7 +77,6 @@ fn leads(joins: &[[bool; 64]; 64], from: u8, to: u8) -> bool
     match gather(&mut rule, &mut found) {
         Ok(closed) => found[..closed.count].contains(&to),
         Err(Halt::Full { .. }) => unreachable(),
-        Err(Halt::Fault { fault, .. }) => match fault {},
     }
 }
 
