@@ -61,8 +61,8 @@ module _ (p : Contents) (ok : Sound p) (s : State) where
   joins_known a b j = let i = ok.inside (a - 1) (b - 1) in grind (arith, nat_tests, i)
 
   -- what the test of one handler tells
-  pub holds_up : (a b : ℕ) (x : Bool) → x ≡ (joins p a b && ltb 0 (kept a)) → Decides x (HoldsUp p (times p s) a b)
-  holds_up a b x e = let k = λ (j : joins p a b ≡ true). kept_is a (joins_known a b j).0 in grind (arith, nat_tests, k)
+  pub holds_up : (i b : ℕ) (x : Bool) → x ≡ (joins p (i + 1) b && ltb 0 (get_or s.left i 0)) → Decides x (HoldsUp p (times p s) (i + 1) b)
+  holds_up i b x e = let k = λ (j : joins p (i + 1) b ≡ true). times_left p s i (omega (arith, (joins_known (i + 1) b j).0)) in let f : i + 1 - 1 ≡ i = omega arith in grind (arith, nat_tests, k)
 
 -- what `any` tells of the numbers 1 to n, where they are counted from 0
 pub any_number : (n : ℕ) (P : ℕ → Type 0) → ((a : ℕ) → P a → (1 ≤ a) × (a ≤ n)) → (r : Bool)

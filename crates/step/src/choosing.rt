@@ -15,7 +15,7 @@ use plan::plans::Plan;
 fn waits(plan: &Plan, state: &State, b: u8) -> bool
     ensures { Decides result ((a : ℕ) × HoldsUp (contents plan.now) (times (contents plan.now) state.now) a b) }
 {
-    (0..plan.count()).any(|i| plan.joined(i + 1, b) && state.time_left(i + 1) > 0)
+    (0..plan.count()).any(|i| plan.joined(i + 1, b) && state.left[i as usize] > 0)
 }
 
 /// Whether the handler of this number is ready: it has time left, and every handler joined before it has none.
@@ -41,12 +41,13 @@ fn contender(plan: &Plan, state: &State, core: Core, number: u8) -> Option<Candi
 pub fn choice<D: Discipline>(plan: &Plan, d: &D, core: Core, t: u64, state: &State) -> Option<u8>
     ensures { Chosen (contents plan.now) (D.first d.now) t (times (contents plan.now) state.now) core result }
 {
-    (1..=plan.count())
-        .filter_map(|number| contender(plan, state, core, number))
-        .reduce(|best, next| if d.goes_first(core, best, next, t) {
-            best
-        } else {
-            next
-        })
-        .map(|first| first.number())
+    let mut best: Option<Candidate> = None;
+    for number in 1..=plan.count() {
+        if let Some(next) = contender(plan, state, core, number) {
+            best = best
+                .filter(|first| d.goes_first(core, *first, next, t))
+                .or(Some(next));
+        }
+    }
+    best.map(|first| first.number())
 }
