@@ -11,8 +11,8 @@ use terms::handlers::Handler;
 pub(crate) fn begins(handler: Handler, t: u64) -> bool
     ensures { Decides result ((handler.offset ≤ t) × (handler.period ∣ t - handler.offset)) }
 {
-    t.checked_sub(handler.offset as u64)
-        .is_some_and(|since| since.is_multiple_of(handler.period as u64))
+    let offset = handler.offset as u64;
+    t >= offset && (t - offset).is_multiple_of(handler.period as u64)
 }
 
 // The handler of this number, if it starts at `t`.
