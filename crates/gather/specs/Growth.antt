@@ -1,6 +1,7 @@
 -- What one level adds to what was found before it.
-use Rattle.std.specs.Prelude.{◌≡◌, ℕ, ◌≤◌, ◌⊎◌, List, Option, MatchOption, length, take}
+use Rattle.std.specs.Prelude.{◌≡◌, ℕ, ◌≤◌, ◌⊎◌, List, Result, MatchResult, length, take}
 use Rattle.std.specs.List.{Contains as Has}
+use Rattle.gather.specs.declared.NoRoom.{NoRoom}
 use Rattle.gather.specs.Levels.{Once, Filled}
 
 -- `after` is `front`, followed by those of `xs` that it lacks, each once
@@ -21,5 +22,5 @@ pub record Overfull {A : Type 0} (front xs full : List A) : Type 0 where
   pub lacks : Has full extra → ⊥
 
 -- what adding `xs` to the first `m` rows of `was` answers and leaves: the first `n` rows of `now`, or nowhere to put one of `xs`
-abbrev pub Absorbs : {A : Type 0} → List A → ℕ → List A → Option (Unit {0}) → ℕ → List A → Type 0
-Absorbs xs m was result n now = MatchOption result (Overfull (take m was) xs now) (λ _. (m ≤ n) × Filled n now was (Grown (take m was) xs))
+abbrev pub Absorbs : {A : Type 0} → List A → ℕ → List A → Result (Unit {0}) NoRoom → ℕ → List A → Type 0
+Absorbs xs m was result n now = MatchResult result (λ _. (m ≤ n) × Filled n now was (Grown (take m was) xs)) (λ _. Overfull (take m was) xs now)

@@ -59,7 +59,11 @@ pub enum Halt<F> {
     },
 }
 
-// What was found: the first `count` of the lent rows.
+// There is no row left to put an element in.
+#[derive(Clone, Copy)]
+struct NoRoom;
+
+// What was found: the first `count` of the rows, which are lent, since memory is fixed.
 #[derive(Drop)]
 struct Found<'a, T> {
     rows: &'a mut [T],
@@ -74,25 +78,25 @@ impl<T: Element> Found<'_, T> {
         self.rows[..self.count].contains(element)
     }
 
-    // Adds an element that was not found yet, or stops where there is no room for it.
-    fn insert(&mut self, element: &T) -> Option<()>
+    // Adds an element that was not found yet.
+    fn insert(&mut self, element: &T) -> Result<(), NoRoom>
         ensures same { self.new.rows.ghost_name ≡ self.old.rows.ghost_name }
         ensures whole { length self.new.rows.now ≡ length self.old.rows.now }
         ensures adds { Absorbs (element.now ∷ []) self.old.count self.old.rows.now result self.new.count self.new.rows.now }
     {
         if !self.contains(element) {
             if self.count == self.rows.len() {
-                return None;
+                return Err(NoRoom);
             }
             // By its place: of a slice whose `get_mut` was asked, a proof knows no element any more.
             self.rows[self.count] = *element;
             self.count += 1;
         }
-        Some(())
+        Ok(())
     }
 
-    // Adds those of a level that were not found yet, or stops where there is no room for one.
-    fn absorb(&mut self, level: &[T]) -> Option<()>
+    // Adds those of a level that were not found yet, until there is no room for one.
+    fn absorb(&mut self, level: &[T]) -> Result<(), NoRoom>
         ensures same { self.new.rows.ghost_name ≡ self.old.rows.ghost_name }
         ensures whole { length self.new.rows.now ≡ length self.old.rows.now }
         ensures adds { Absorbs level.now self.old.count self.old.rows.now result self.new.count self.new.rows.now }
@@ -100,7 +104,7 @@ impl<T: Element> Found<'_, T> {
         for element in level {
             self.insert(element)?;
         }
-        Some(())
+        Ok(())
     }
 }
 
@@ -112,12 +116,13 @@ pub fn gather<R: Rule>(rule: &mut R, found: &mut [R::Item]) -> Result<Closed, Ha
         rows: found,
         count: 0,
     };
+    // Counted by hand: the number is a part of every answer, and a range to go over would need an end.
     let mut levels = 0;
     loop {
         let count = found.count;
         found
             .absorb(rule.level())
-            .ok_or_else(|| Halt::Full { level: levels })?;
+            .map_err(|_| Halt::Full { level: levels })?;
         if found.count == count {
             return Ok(Closed { levels, count });
         }

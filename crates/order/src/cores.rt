@@ -12,6 +12,7 @@ pub struct Core {
 }
 
 impl Core {
+    // An `Option`, as at the library's `NonZero`: an error would say no more than that there is no such core.
     /// The core of this number; `None` for 0 and above 8.
     pub fn new(number: u8) -> Option<Core>
         ensures test { is_some result ≡ (nat_le 1 number && nat_le number 8) }

@@ -49,6 +49,7 @@ fn show_changes<D: Discipline>(
 ) -> io::Result<u64> {
     arrange(d, core, row, 0);
     show(rt, core, 0, row)?;
+    // By hand: an iterator over the changes would have to hold the row that each of them arranges anew.
     let mut changes: u64 = 0;
     let mut from = 1;
     while let Some(t) = next_change(d, core, row, from, end) {

@@ -49,10 +49,9 @@ impl Plan {
     pub fn joined(&self, a: u8, b: u8) -> bool
         ensures { result ≡ joins (contents self.now) a b }
     {
-        match (self.place(a), self.place(b)) {
-            (Some(i), Some(j)) => self.joins[i][j],
-            _ => false,
-        }
+        self.place(a)
+            .zip(self.place(b))
+            .is_some_and(|(i, j)| self.joins[i][j])
     }
 
     /// The round (the hyperperiod): the least number that every period divides.
