@@ -2,3 +2,4 @@ pub mod Counting
 pub mod Ending
 pub mod Growing
 pub mod Walking
+pub mod Lending

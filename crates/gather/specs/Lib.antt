@@ -1,2 +1,4 @@
 pub mod Growth
+pub mod Lents
 pub mod Levels
+pub mod Tables

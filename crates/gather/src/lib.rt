@@ -1,11 +1,17 @@
 // Gathers what can be reached, level by level, until a level brings nothing new.
 #![tactic(auto)]
 
-ghost use Rattle.std.specs.Prelude.{◌≡◌, ◌≤◌, List, [], ◌∷◌, length, take, Decides, MatchResult};
+ghost use Rattle.std.specs.Prelude.{◌≡◌, ◌≤◌, List, [], ◌∷◌, length, take, Decides, MatchResult, OnErr};
 ghost use Rattle.std.specs.List.{Contains as Has};
-ghost use Rattle.gather.specs.Levels.{Tells, Closes, Filled, Halted};
+ghost use Rattle.gather.specs.Levels.{Tells, Closes, Gathered, Halts, Filled, Halted};
 ghost use Rattle.gather.specs.Growth.{Absorbs};
 ghost use Rattle.std.proofs.lemmas.Bool.Decides.{Decides-eqb};
+
+use crate::lent::Lent;
+use crate::tables::{Inserted, Table};
+
+pub mod lent;
+pub mod tables;
 
 /// Elements that `==` tells apart: two that it says are equal are one. Of `Eq` it is known only that it is an equivalence.
 pub trait Element: Copy + PartialEq {
@@ -59,52 +65,51 @@ pub enum Halt<F> {
     },
 }
 
-// There is no row left to put an element in.
+// There is no room for an element.
 #[derive(Clone, Copy)]
 struct NoRoom;
 
-// What was found: the first `count` of the rows, which are lent, since memory is fixed.
-#[derive(Drop)]
-struct Found<'a, T> {
-    rows: &'a mut [T],
-    count: usize,
-    ghost fits: { count ≤ length rows.now },
+// Puts the elements of a level into the table, until there is no room for one.
+fn absorb<T: Table>(table: &mut T, level: &[T::Item]) -> Result<(), NoRoom>
+    ensures adds { Absorbs level.now (T.members table.old) result (T.members table.new) }
+    ensures full { OnErr result (length (T.members table.new) ≡ T.room table.new) }
+    ensures same_room { T.room table.new ≡ T.room table.old }
+    ensures frame { T.extended table.old table.new }
+{
+    for element in level {
+        match table.insert(element) {
+            Inserted::New | Inserted::There => {}
+            Inserted::Full => return Err(NoRoom),
+        }
+    }
+    Ok(())
 }
 
-impl<T: Element> Found<'_, T> {
-    fn contains(&self, element: &T) -> bool
-        ensures { Decides result (Has (take self.now.count self.now.rows.now) element.now) }
-    {
-        self.rows[..self.count].contains(element)
-    }
-
-    // Adds an element that was not found yet.
-    fn insert(&mut self, element: &T) -> Result<(), NoRoom>
-        ensures same { self.new.rows.ghost_name ≡ self.old.rows.ghost_name }
-        ensures whole { length self.new.rows.now ≡ length self.old.rows.now }
-        ensures adds { Absorbs (element.now ∷ []) self.old.count self.old.rows.now result self.new.count self.new.rows.now }
-    {
-        if !self.contains(element) {
-            if self.count == self.rows.len() {
-                return Err(NoRoom);
-            }
-            // By its place: of a slice whose `get_mut` was asked, a proof knows no element any more.
-            self.rows[self.count] = *element;
-            self.count += 1;
+/// Gathers the elements of level after level into the table, emptied first, until a level brings nothing new.
+pub fn gather_into<R: Rule, T: Table<Item = R::Item>>(
+    rule: &mut R,
+    table: &mut T,
+) -> Result<Closed, Halt<R::Fault>>
+    ensures gathers { MatchResult result (λ o. Gathered o (T.members table.new) (Closes R.shows R.steps rule.old o.levels rule.new)) (Halts R.shows R.steps R.halts rule.old rule.new (T.room table.new) (T.members table.new)) }
+    ensures same_room { T.room table.new ≡ T.room table.old }
+    ensures frame { (s : T) × T.emptied table.old s × T.extended s table.new }
+{
+    table.clear();
+    // Counted by hand: the number is a part of every answer, and a range to go over would need an end.
+    let mut levels = 0;
+    loop {
+        let count = table.rows().len();
+        absorb(table, rule.level()).map_err(|_| Halt::Full { level: levels })?;
+        let after = table.rows().len();
+        if after == count {
+            return Ok(Closed { levels, count });
         }
-        Ok(())
-    }
-
-    // Adds those of a level that were not found yet, until there is no room for one.
-    fn absorb(&mut self, level: &[T]) -> Result<(), NoRoom>
-        ensures same { self.new.rows.ghost_name ≡ self.old.rows.ghost_name }
-        ensures whole { length self.new.rows.now ≡ length self.old.rows.now }
-        ensures adds { Absorbs level.now self.old.count self.old.rows.now result self.new.count self.new.rows.now }
-    {
-        for element in level {
-            self.insert(element)?;
-        }
-        Ok(())
+        rule.advance().map_err(|fault| Halt::Fault {
+            level: levels,
+            count: after,
+            fault,
+        })?;
+        levels += 1;
     }
 }
 
@@ -112,27 +117,7 @@ impl<T: Element> Found<'_, T> {
 pub fn gather<R: Rule>(rule: &mut R, found: &mut [R::Item]) -> Result<Closed, Halt<R::Fault>>
     ensures { MatchResult result (λ o. Filled o.count found.new found.old (Closes R.shows R.steps rule.old o.levels rule.new)) (Halted R.shows R.steps R.halts rule.old rule.new found.new found.old) }
 {
-    let mut found = Found {
-        rows: found,
-        count: 0,
-    };
-    // Counted by hand: the number is a part of every answer, and a range to go over would need an end.
-    let mut levels = 0;
-    loop {
-        let count = found.count;
-        found
-            .absorb(rule.level())
-            .map_err(|_| Halt::Full { level: levels })?;
-        if found.count == count {
-            return Ok(Closed { levels, count });
-        }
-        rule.advance().map_err(|fault| Halt::Fault {
-            level: levels,
-            count: found.count,
-            fault,
-        })?;
-        levels += 1;
-    }
+    gather_into(rule, &mut Lent::new(found))
 }
 
 #[cfg(test)]
