@@ -5,3 +5,4 @@ pub mod Reaching
 pub mod Rows
 pub mod Serving
 pub mod Successors
+pub mod Same
