@@ -1,4 +1,7 @@
 // One unit of time on small plans.
+use fronts::advance;
+use gather::lent::Lent;
+use gather::tables::Table;
 use order::cores::Core;
 use order::criteria::FixedPriority;
 use order::disciplines::Numbered;
@@ -99,5 +102,26 @@ fn times_that_do_not_fit(rt: HostRuntime) -> Result<(), Fail> {
         misfit(&plan, &[2, 4]),
         Some(Misfit::Outside { number: 2, time: 4 })
     );
+    Ok(())
+}
+
+// How many states there are one unit after the first, where the tables have so many rows.
+fn fronts(plan: &Plan, rows: usize) -> Option<usize> {
+    let d = Numbered {
+        criterion: FixedPriority,
+    };
+    let (mut first, mut second) = ([State::new(); 8], [State::new(); 8]);
+    let mut front = Lent::new(&mut first[..1]);
+    let mut back = Lent::new(&mut second[..rows.min(8)]);
+    front.insert(&State::new());
+    advance(plan, &d, 0, &front, &mut back).ok()?;
+    Some(back.rows().len())
+}
+
+#[test]
+fn a_front_follows_a_front(rt: HostRuntime) -> Result<(), Fail> {
+    let plan = two_joined()?;
+    assert_eq!(rt; fronts(&plan, 6), Some(6));
+    assert_eq!(rt; fronts(&plan, 5), None);
     Ok(())
 }

@@ -1,0 +1,2 @@
+pub mod Spreading
+pub mod Advancing
