@@ -1,0 +1,26 @@
+-- What the plan of a sample holds, and what a sample claims.
+use Rattle.std.specs.Prelude.{fold, Some, None, Option}
+use Rattle.order.specs.Laws.{IsLawfulChoice}
+use Rattle.banks.specs.Codes.{coded}
+use Rattle.plan.specs.Contents.{Contents, Sound, empty}
+use Rattle.plan.specs.Calls.{added, with_join}
+use Rattle.model.specs.Verdicts.{VerdictIs}
+use Rattle.samples.specs.declared.Call.{Call}
+use Rattle.samples.specs.declared.Call.TheVariants.{Register, Join}
+use Rattle.samples.specs.declared.Sample.{Sample}
+
+-- what the plan holds after the call, if there is one
+abbrev pub called : Contents → Option Call → Contents
+called k None = k
+called k (Some (Register h)) = added k h
+called k (Some (Join a b)) = with_join k a b
+
+-- what the plan holds after all calls, made in turn on a new plan
+abbrev pub plan_of : Sample → Contents
+plan_of x = fold called empty x.calls
+
+-- the verdict is the model's, for the plan, for what the codes mean and for these rows; a plan can hold this, and the codes make a lawful discipline
+pub record Known (x : Sample) : Type 0 where
+  pub sound : Sound (plan_of x)
+  pub lawful : IsLawfulChoice (coded x.codes)
+  pub verdict : VerdictIs (plan_of x) (coded x.codes) x.working x.marks x.verdict
