@@ -3,6 +3,7 @@ use Rattle.std.proofs.Common.{◌≡◌, ℕ, suc, pred, ◌<◌, ◌≤◌, Boo
 use Rattle.std.specs.Prelude.{Some, None, Option, nat_lt, nat_le, ◌==◌}
 use Rattle.std.specs.List.{list_all}
 use Rattle.std.proofs.lemmas.Bool.{eqb-true, and_parts, or_cases}
+use Rattle.terms.specs.declared.handlers.Handler.{Handler}
 use Rattle.plan.specs.Contents.{Contents, Sound, count, at, round, empty}
 use Rattle.plan.specs.Joins.{Chain, one, more}
 use Rattle.plan.specs.Rows.{IsInRange, longest_round}
@@ -43,10 +44,11 @@ may_join p a b =
     nat_lt a b
     && (nat_le b (count p) && ((at p (pred a)).period == (at p (pred b)).period && (at p (pred a)).offset == (at p (pred b)).offset))
 
+abbrev pub ranged : Handler → Bool
+ranged h = nat_le 1 h.period && (nat_le 1 h.shortest && (nat_le h.shortest h.longest && (nat_le 1 h.core && nat_le h.core 8)))
+
 abbrev pub in_range : Contents → ℕ → Bool
-in_range p i =
-    nat_le 1 (at p i).period
-    && (nat_le 1 (at p i).shortest && (nat_le (at p i).shortest (at p i).longest && (nat_le 1 (at p i).core && nat_le (at p i).core 8)))
+in_range p i = ranged (at p i)
 
 abbrev pub can_be : Sample → Bool
 can_be x =
@@ -54,19 +56,19 @@ can_be x =
     && (below (count (plan_of x)) (in_range (plan_of x))
     && (nat_le (round (plan_of x)) longest_round && list_all (if_joins (may_join (plan_of x))) x.calls))
 
-may_join_so : (p : Contents) (a b : ℕ) → may_join p a b ≡ true
+pub may_join_so : (p : Contents) (a b : ℕ) → may_join p a b ≡ true
     → (a < b) × ((b ≤ count p) × (((at p (pred a)).period ≡ (at p (pred b)).period) × ((at p (pred a)).offset ≡ (at p (pred b)).offset)))
 may_join_so p a b e =
     (and_decides _ _ (lt_decides a b)
     (and_decides _ _ (le_decides b (count p))
     (and_decides _ _ (eq_decides (at p (pred a)).period (at p (pred b)).period) (eq_decides (at p (pred a)).offset (at p (pred b)).offset)))).0 e
 
-in_range_so : (p : Contents) (i : ℕ) → in_range p i ≡ true → IsInRange (at p i)
-in_range_so p i e =
-    let r = (and_decides _ _ (le_decides 1 (at p i).period)
-    (and_decides _ _ (le_decides 1 (at p i).shortest)
-    (and_decides _ _ (le_decides (at p i).shortest (at p i).longest)
-    (and_decides _ _ (le_decides 1 (at p i).core) (le_decides (at p i).core 8))))).0 e in
+pub ranged_so : (h : Handler) → ranged h ≡ true → IsInRange h
+ranged_so h e =
+    let r = (and_decides _ _ (le_decides 1 h.period)
+    (and_decides _ _ (le_decides 1 h.shortest)
+    (and_decides _ _ (le_decides h.shortest h.longest)
+    (and_decides _ _ (le_decides 1 h.core) (le_decides h.core 8))))).0 e in
     (r.0, r.1.0, r.1.1.0, r.1.1.1.0, r.1.1.1.1)
 
 module _ (x : Sample) (test : can_be x ≡ true) where
@@ -108,7 +110,7 @@ module _ (x : Sample) (test : can_be x ≡ true) where
   can_be_sound =
       record {
         few = parts.few;
-        ranges = λ i h. in_range_so (plan_of x) i (parts.ranges i h);
+        ranges = λ i h. ranged_so (at (plan_of x) i) (parts.ranges i h);
         short = parts.short;
         inside = λ a b j. let r = joined_so a b j in (omega (arith, r.onward, r.inside), r.inside);
         periods = λ a b j. (joined_so a b j).period;

@@ -48,11 +48,12 @@ number_of P l f =
 
 outnumber_decides : (P : State → Type 0) (l : List State) → Listed P l → (n : ℕ) → Decides (nat_lt n (length l)) (Outnumber P n)
 outnumber_decides P l f n =
-    iff_decides
-    (λ h. record { states = l; once = f.once; such = λ s x. (f.just s).1 x; many = h },
-    λ o. let a : length o.states ≤ length l = once_fits o.states l o.once (λ s x. (f.just s).0 (o.such s x)) in
-        let b : n < length o.states = o.many in
-        omega arith)
+    iff_decides (
+      λ h. record { states = l; once = f.once; such = λ s x. (f.just s).1 x; many = h },
+      λ o. let a : length o.states ≤ length l = once_fits o.states l o.once (λ s x. (f.just s).0 (o.such s x)) in
+          let b : n < length o.states = o.many in
+          omega arith,
+    )
     (lt_decides n (length l))
 
 -- ---- which mark time it is

@@ -8,6 +8,7 @@ use Rattle.order.specs.Lawful.{by_number_lawful, by_period_lawful, by_distance_l
 use Rattle.banks.specs.declared.codes.Code.{Code}
 use Rattle.banks.specs.declared.codes.Code.TheVariants.{FixedPriority, RateMonotonic, EarliestDeadline}
 use Rattle.banks.specs.Codes.{ranks_by, code_at, coded}
+use Rattle.plan.specs.Contents.{empty}
 use Rattle.model.specs.declared.verdicts.Rows.TheVariants.{Working, Marks}
 use Rattle.model.specs.declared.verdicts.Verdict.{Verdict}
 use Rattle.model.specs.declared.verdicts.Verdict.TheVariants.{Kept, Missed, RowsShort}
@@ -18,6 +19,7 @@ use Rattle.samples.specs.Plans.{plan_of, Known}
 use Rattle.samples.specs.Samples.{row, all_fixed, late_first, samples, SamplesKnown, LateFirstLeft}
 use Rattle.samples.proofs.Evaluate.{asked, states, verdict_by, answers}
 use Rattle.samples.proofs.Kept.{can_be, can_be_sound}
+use Rattle.samples.proofs.Taking.{takes_all, all_taken}
 use Rattle.samples.proofs.Outcomes.{at_states, computed_verdict}
 use Rattle.samples.proofs.Tests.{eq_decides, true_decides, all_decides}
 use Rattle.samples.proofs.Unit.{asked_answers}
@@ -42,15 +44,17 @@ coded_lawful codes =
       repeats = λ k a b t p. (numbered_lawful (ranks_by (code_at codes k)) (code_lawful (code_at codes k))).repeats k a b t p;
     }
 
--- the calls make a plan, and the first verdict within twenty units is the one named
+-- the calls are all taken and make a plan, and the first verdict within twenty units is the one named
 abbrev pub is_right : Sample → Bool
-is_right x = can_be x && answers (verdict_by (plan_of x) (asked (plan_of x) x.codes) x.working x.marks 20 0) x.verdict
+is_right x = takes_all empty x.calls && (can_be x && answers (verdict_by (plan_of x) (asked (plan_of x) x.codes) x.working x.marks 20 0) x.verdict)
 
 pub right_known : (x : Sample) → is_right x ≡ true → Known x
 right_known x e =
-    let r = and_parts (can_be x) _ e in
+    let a = and_parts (takes_all empty x.calls) _ e in
+    let r = and_parts (can_be x) _ a.1 in
     let ok = can_be_sound x r.0 in
     record {
+      taken = all_taken x.calls a.0;
       sound = ok;
       lawful = coded_lawful x.codes;
       verdict = computed_verdict (plan_of x) (coded x.codes) ok (asked (plan_of x) x.codes) (asked_answers (plan_of x) x.codes ok) x.working x.marks 20 x.verdict

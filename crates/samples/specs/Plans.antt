@@ -1,9 +1,9 @@
 -- What the plan of a sample holds, and what a sample claims.
-use Rattle.std.specs.Prelude.{fold, Some, None, Option}
+use Rattle.std.specs.Prelude.{List, [], ◌∷◌, fold, Some, None, Option}
 use Rattle.order.specs.Laws.{IsLawfulChoice}
 use Rattle.banks.specs.Codes.{coded}
 use Rattle.plan.specs.Contents.{Contents, Sound, empty}
-use Rattle.plan.specs.Calls.{added, with_join}
+use Rattle.plan.specs.Calls.{added, Takes, with_join, MayJoin}
 use Rattle.model.specs.Verdicts.{VerdictIs}
 use Rattle.samples.specs.declared.Call.{Call}
 use Rattle.samples.specs.declared.Call.TheVariants.{Register, Join}
@@ -19,8 +19,20 @@ called k (Some (Join a b)) = with_join k a b
 abbrev pub plan_of : Sample → Contents
 plan_of x = fold called empty x.calls
 
--- the verdict is the model's, for the plan, for what the codes mean and for these rows; a plan can hold this, and the codes make a lawful discipline
+-- the plan takes the call, if there is one
+abbrev pub Taken : Contents → Option Call → Type 0
+Taken k None = Unit {0}
+Taken k (Some (Register h)) = Takes k h
+Taken k (Some (Join a b)) = MayJoin k a b
+
+-- it takes all of them, in turn
+abbrev pub AllTaken : Contents → List (Option Call) → Type 0
+AllTaken k [] = Unit {0}
+AllTaken k (c ∷ calls) = Taken k c × AllTaken (called k c) calls
+
+-- the verdict is the model's, for the plan, for what the codes mean and for these rows; no call is refused, a plan can hold this, and the codes make a lawful discipline
 pub record Known (x : Sample) : Type 0 where
+  pub taken : AllTaken empty x.calls
   pub sound : Sound (plan_of x)
   pub lawful : IsLawfulChoice (coded x.codes)
   pub verdict : VerdictIs (plan_of x) (coded x.codes) x.working x.marks x.verdict
