@@ -12,7 +12,7 @@ use Rattle.samples.specs.declared.Call.TheVariants.{Register, Join}
 use Rattle.samples.specs.declared.Sample.{Sample}
 use Rattle.samples.specs.Plans.{called, plan_of}
 use Rattle.samples.proofs.Evaluate.{below}
-use Rattle.samples.proofs.Tests.{lt_decides, le_decides, eq_decides, true_decides, and_decides, below_decides}
+use Rattle.samples.proofs.Deciding.{lt_decides, le_decides, eq_decides, true_decides, and_decides, below_decides}
 
 -- the test holds of the numbers, if the call joins
 abbrev pub if_joins : (ℕ → ℕ → Bool) → Option Call → Bool

@@ -18,7 +18,7 @@ use Rattle.model.proofs.Extend.{some_run, beginnings_go_on}
 use Rattle.model.proofs.Lists.{has_none, has_only, once_none, once_cons, flat, has_flat, has_flat_cases, has_counting, counting_has}
 use Rattle.model.proofs.Marks.{mark_apart}
 use Rattle.samples.proofs.Evaluate.{member, thin, lowest, Asks, divides, late, mark_at, nexts, states, misses, marks, closes, if_held, if_closed, if_mark, if_late, if_short, outcome, or_else, verdict_by}
-use Rattle.samples.proofs.Tests.{lt_decides, le_decides, divides_decides, iff_decides, and_decides, all_decides, any_decides, member_decides, fails, thin_thins, IsLowest, lowest_is}
+use Rattle.samples.proofs.Deciding.{lt_decides, le_decides, divides_decides, iff_decides, and_decides, all_decides, any_decides, member_decides, fails, thin_thins, IsLowest, lowest_is}
 use Rattle.samples.proofs.Unit.{Answers, step_nexts}
 
 -- ---- how many are such

@@ -10,7 +10,7 @@ use Rattle.samples.specs.declared.Call.{Call}
 use Rattle.samples.specs.declared.Call.TheVariants.{Register, Join}
 use Rattle.samples.specs.Plans.{called, Taken, AllTaken}
 use Rattle.samples.proofs.Kept.{ranged, ranged_so, may_join, may_join_so}
-use Rattle.samples.proofs.Tests.{lt_decides, le_decides, true_decides, and_decides}
+use Rattle.samples.proofs.Deciding.{lt_decides, le_decides, true_decides, and_decides}
 
 abbrev pub takes : Contents → Option Call → Bool
 takes k None = true

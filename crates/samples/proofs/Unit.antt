@@ -20,7 +20,7 @@ use Rattle.model.proofs.Extend.{finish_only}
 use Rattle.model.proofs.Lists.{has_only, has_map, has_map_cases, has_counting, counting_has, has_products, products_has, each_from, from_each}
 use Rattle.model.proofs.Made.{made_long, made_left}
 use Rattle.samples.proofs.Evaluate.{Asks, first_by, asked, starts, times, choices, begun, ready, runs, kept_left, served, nexts}
-use Rattle.samples.proofs.Tests.{lt_decides, le_decides, eq_decides, divides_decides, true_decides, iff_decides, and_decides, unless, arrow_decides, below_decides, fails, fails_where}
+use Rattle.samples.proofs.Deciding.{lt_decides, le_decides, eq_decides, divides_decides, true_decides, iff_decides, and_decides, unless, arrow_decides, below_decides, fails, fails_where}
 
 -- ---- who goes first
 

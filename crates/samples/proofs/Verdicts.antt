@@ -14,6 +14,8 @@ use Rattle.model.specs.declared.verdicts.Verdict.{Verdict}
 use Rattle.model.specs.declared.verdicts.Verdict.TheVariants.{Kept, Missed, RowsShort}
 use Rattle.model.specs.Units.{State, left}
 use Rattle.model.specs.Runs.{StateAt}
+use Rattle.model.specs.Verdicts.{VerdictIs}
+use Rattle.model.proofs.Unique.{verdict_one}
 use Rattle.samples.specs.declared.Sample.{Sample}
 use Rattle.samples.specs.Plans.{plan_of, Known}
 use Rattle.samples.specs.Samples.{row, all_fixed, late_first, samples, SamplesKnown, LateFirstLeft}
@@ -21,7 +23,7 @@ use Rattle.samples.proofs.Evaluate.{asked, states, verdict_by, answers}
 use Rattle.samples.proofs.Kept.{can_be, can_be_sound}
 use Rattle.samples.proofs.Taking.{takes_all, all_taken}
 use Rattle.samples.proofs.Outcomes.{at_states, computed_verdict}
-use Rattle.samples.proofs.Tests.{eq_decides, true_decides, all_decides}
+use Rattle.samples.proofs.Deciding.{eq_decides, true_decides, all_decides}
 use Rattle.samples.proofs.Unit.{asked_answers}
 
 pub answers_is : (o : Option Verdict) (v : Verdict) → answers o v ≡ true → o ≡ Some v
@@ -53,12 +55,15 @@ right_known x e =
     let a = and_parts (takes_all empty x.calls) _ e in
     let r = and_parts (can_be x) _ a.1 in
     let ok = can_be_sound x r.0 in
+    let verdict : VerdictIs (plan_of x) (coded x.codes) x.working x.marks x.verdict =
+    computed_verdict (plan_of x) (coded x.codes) ok (asked (plan_of x) x.codes) (asked_answers (plan_of x) x.codes ok) x.working x.marks 20 x.verdict
+    (answers_is (verdict_by (plan_of x) (asked (plan_of x) x.codes) x.working x.marks 20 0) x.verdict r.1) in
     record {
       taken = all_taken x.calls a.0;
       sound = ok;
       lawful = coded_lawful x.codes;
-      verdict = computed_verdict (plan_of x) (coded x.codes) ok (asked (plan_of x) x.codes) (asked_answers (plan_of x) x.codes ok) x.working x.marks 20 x.verdict
-          (answers_is (verdict_by (plan_of x) (asked (plan_of x) x.codes) x.working x.marks 20 0) x.verdict r.1);
+      verdict = verdict;
+      only = λ v g. verdict_one (plan_of x) (coded x.codes) x.working x.marks ok v x.verdict g verdict;
     }
 
 -- computed
@@ -85,4 +90,4 @@ leaves_so t i n e s a =
     ((at_states (plan_of late) (coded late.codes) ok (asked (plan_of late) late.codes) (asked_answers (plan_of late) late.codes ok) t s).0 a)
 
 pub late_first_left : LateFirstLeft
-late_first_left = record { early = leaves_so 2 3 1 refl; later = leaves_so 6 3 0 refl }
+late_first_left run r = (leaves_so 2 3 1 refl (run 2) (run, r, refl), leaves_so 6 3 0 refl (run 6) (run, r, refl))

@@ -1,9 +1,10 @@
 -- What the plan of a sample holds, and what a sample claims.
-use Rattle.std.specs.Prelude.{List, [], ◌∷◌, fold, Some, None, Option}
+use Rattle.std.specs.Prelude.{◌≡◌, List, [], ◌∷◌, fold, Some, None, Option}
 use Rattle.order.specs.Laws.{IsLawfulChoice}
 use Rattle.banks.specs.Codes.{coded}
 use Rattle.plan.specs.Contents.{Contents, Sound, empty}
 use Rattle.plan.specs.Calls.{added, Takes, with_join, MayJoin}
+use Rattle.model.specs.declared.verdicts.Verdict.{Verdict}
 use Rattle.model.specs.Verdicts.{VerdictIs}
 use Rattle.samples.specs.declared.Call.{Call}
 use Rattle.samples.specs.declared.Call.TheVariants.{Register, Join}
@@ -30,9 +31,10 @@ abbrev pub AllTaken : Contents → List (Option Call) → Type 0
 AllTaken k [] = Unit {0}
 AllTaken k (c ∷ calls) = Taken k c × AllTaken (called k c) calls
 
--- the verdict is the model's, for the plan, for what the codes mean and for these rows; no call is refused, a plan can hold this, and the codes make a lawful discipline
+-- no call is refused, and a plan can hold what the calls make; the codes make a lawful discipline; for these rows the verdict is the model's, and there is no other
 pub record Known (x : Sample) : Type 0 where
   pub taken : AllTaken empty x.calls
   pub sound : Sound (plan_of x)
   pub lawful : IsLawfulChoice (coded x.codes)
   pub verdict : VerdictIs (plan_of x) (coded x.codes) x.working x.marks x.verdict
+  pub only : (v : Verdict) → VerdictIs (plan_of x) (coded x.codes) x.working x.marks v → v ≡ x.verdict

@@ -7,7 +7,7 @@ use Rattle.model.specs.declared.verdicts.Rows.TheVariants.{Working, Marks}
 use Rattle.model.specs.declared.verdicts.Verdict.{Verdict}
 use Rattle.model.specs.declared.verdicts.Verdict.TheVariants.{Kept, Missed, RowsShort}
 use Rattle.model.specs.Units.{State, left}
-use Rattle.model.specs.Runs.{StateAt}
+use Rattle.model.specs.Runs.{Run}
 use Rattle.samples.specs.declared.Call.{Call}
 use Rattle.samples.specs.declared.Call.TheVariants.{Register, Join}
 use Rattle.samples.specs.declared.Sample.{Sample}
@@ -93,6 +93,7 @@ abbrev pub SamplesKnown : Type 0
 SamplesKnown = (x : Sample) → Has samples x → Known x
 
 -- the plan with the handler that is released late, by fixed priority: in every run handler 4 has 1 left at time 2, and 0 a round later
-pub record LateFirstLeft : Type 0 where
-  pub early : (s : State) → StateAt (plan_of (row late_first all_fixed 128 128 (Kept 1 1))) (coded all_fixed) 2 s → left s 3 ≡ 1
-  pub later : (s : State) → StateAt (plan_of (row late_first all_fixed 128 128 (Kept 1 1))) (coded all_fixed) 6 s → left s 3 ≡ 0
+abbrev pub LateFirstLeft : Type 0
+LateFirstLeft =
+    (run : ℕ → State) → Run (plan_of (row late_first all_fixed 128 128 (Kept 1 1))) (coded all_fixed) run
+    → (left (run 2) 3 ≡ 1) × (left (run 6) 3 ≡ 0)

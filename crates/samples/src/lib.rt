@@ -4,6 +4,8 @@
 
 mod making;
 mod table;
+#[cfg(test)]
+mod tests;
 
 use banks::codes::Code;
 use model::verdicts::Verdict;
