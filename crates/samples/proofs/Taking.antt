@@ -4,12 +4,11 @@ use Rattle.std.specs.Prelude.{Some, None, Option, nat_lt, nat_le, ◌==◌}
 use Rattle.std.proofs.lemmas.Bool.{eqb-true, and_parts, or_cases}
 use Rattle.plan.specs.Contents.{Contents, count, at, round, empty}
 use Rattle.plan.specs.Calls.{added, MayJoin, ClosesCircle}
-use Rattle.plan.specs.Joins.{Chain, one, more}
 use Rattle.plan.specs.Rows.{longest_round}
 use Rattle.samples.specs.declared.Call.{Call}
 use Rattle.samples.specs.declared.Call.TheVariants.{Register, Join}
 use Rattle.samples.specs.Plans.{called, Taken, AllTaken}
-use Rattle.samples.proofs.Kept.{ranged, ranged_so, may_join, may_join_so}
+use Rattle.samples.proofs.Sound.{Onward, chain_onward, ranged, ranged_so, may_join, may_join_so}
 use Rattle.samples.proofs.Deciding.{lt_decides, le_decides, true_decides, and_decides}
 
 abbrev pub takes : Contents → Option Call → Bool
@@ -20,15 +19,6 @@ takes k (Some (Join a b)) = nat_le 1 a && may_join k a b
 abbrev pub takes_all : Contents → List (Option Call) → Bool
 takes_all k [] = true
 takes_all k (c ∷ calls) = takes k c && takes_all (called k c) calls
-
--- each join leads from a smaller number to a greater one
-Onward : Contents → Type 0
-Onward k = (a b : ℕ) → k.joined a b ≡ true → a < b
-
-chain_onward : (k : Contents) → Onward k → {a b : ℕ} → Chain k.joined a b → a < b
-unfolding Onward
-chain_onward k f {a} {b} (one j) = f a b j
-chain_onward k f {a} {b} (more {b = c} j r) = let l : a < c = f a c j in omega (arith, chain_onward k f r)
 
 pred_less : (a : ℕ) → pred a ≡ a - 1
 pred_less zero = refl
@@ -61,7 +51,6 @@ taken_so k (Some (Join a b)) f e =
     may_join_taken k a b f r.0 r.1
 
 still_onward : (k : Contents) (c : Option Call) → Onward k → takes k c ≡ true → Onward (called k c)
-unfolding Onward
 still_onward k None f e = f
 still_onward k (Some (Register h)) f e = f
 still_onward k (Some (Join a b)) f e = λ x y j.
@@ -81,5 +70,4 @@ all_taken_from k (c ∷ calls) f e =
     (taken_so k c f r.0, all_taken_from (called k c) calls (still_onward k c f r.0) r.1)
 
 pub all_taken : (calls : List (Option Call)) → takes_all empty calls ≡ true → AllTaken empty calls
-unfolding Onward
 all_taken calls e = all_taken_from empty calls (λ a b j. absurd (true≢false (sym j))) e

@@ -20,7 +20,7 @@ use Rattle.samples.specs.declared.Sample.{Sample}
 use Rattle.samples.specs.Plans.{plan_of, Known}
 use Rattle.samples.specs.Samples.{row, all_fixed, late_first, samples, SamplesKnown, LateFirstLeft}
 use Rattle.samples.proofs.Evaluate.{asked, states, verdict_by, answers}
-use Rattle.samples.proofs.Kept.{can_be, can_be_sound}
+use Rattle.samples.proofs.Sound.{can_be, can_be_sound}
 use Rattle.samples.proofs.Taking.{takes_all, all_taken}
 use Rattle.samples.proofs.Outcomes.{at_states, computed_verdict}
 use Rattle.samples.proofs.Deciding.{eq_decides, true_decides, all_decides}

@@ -14,6 +14,14 @@ use Rattle.samples.specs.Plans.{called, plan_of}
 use Rattle.samples.proofs.Evaluate.{below}
 use Rattle.samples.proofs.Deciding.{lt_decides, le_decides, eq_decides, true_decides, and_decides, below_decides}
 
+-- each join leads from a smaller number to a greater one
+abbrev pub Onward : Contents → Type 0
+Onward k = (a b : ℕ) → k.joined a b ≡ true → a < b
+
+pub chain_onward : (k : Contents) → Onward k → {a b : ℕ} → Chain k.joined a b → a < b
+chain_onward k f {a} {b} (one j) = f a b j
+chain_onward k f {a} {b} (more {b = c} j r) = let l : a < c = f a c j in omega (arith, chain_onward k f r)
+
 -- the test holds of the numbers, if the call joins
 abbrev pub if_joins : (ℕ → ℕ → Bool) → Option Call → Bool
 if_joins f None = true
@@ -101,9 +109,8 @@ module _ (x : Sample) (test : can_be x ≡ true) where
           let m : suc b ≤ count (plan_of x) = r.1.0 in
           record { onward = omega arith; inside = omega arith; period = r.1.1.0; offset = r.1.1.1 }
 
-  chain_onward : {a b : ℕ} → Chain (plan_of x).joined a b → a < b
-  chain_onward {a} {b} (one j) = (joined_so a b j).onward
-  chain_onward {a} {b} (more {b = c} j r) = let l : a < c = (joined_so a c j).onward in omega (arith, chain_onward r)
+  onward : Onward (plan_of x)
+  onward a b j = (joined_so a b j).onward
 
   -- a plan can hold it
   pub can_be_sound : Sound (plan_of x)
@@ -115,5 +122,5 @@ module _ (x : Sample) (test : can_be x ≡ true) where
         inside = λ a b j. let r = joined_so a b j in (omega (arith, r.onward, r.inside), r.inside);
         periods = λ a b j. (joined_so a b j).period;
         offsets = λ a b j. (joined_so a b j).offset;
-        no_circle = λ a c. omega (arith, chain_onward c);
+        no_circle = λ a c. omega (arith, chain_onward (plan_of x) onward c);
       }
