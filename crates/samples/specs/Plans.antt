@@ -1,9 +1,10 @@
 -- What the plan of a sample holds, and what a sample claims.
-use Rattle.std.specs.Prelude.{◌≡◌, List, [], ◌∷◌, fold, Some, None, Option}
+use Rattle.std.specs.Prelude.{◌≡◌, ◌⊎◌, List, [], ◌∷◌, fold, Some, None, Option, Err}
+use Rattle.terms.specs.declared.refusals.Refusal.{Refusal}
 use Rattle.order.specs.Laws.{IsLawfulChoice}
 use Rattle.banks.specs.Codes.{coded}
 use Rattle.plan.specs.Contents.{Contents, Sound, empty}
-use Rattle.plan.specs.Calls.{added, Takes, with_join, MayJoin}
+use Rattle.plan.specs.Calls.{added, Takes, Registers, with_join, MayJoin, Joins}
 use Rattle.model.specs.declared.verdicts.Verdict.{Verdict}
 use Rattle.model.specs.Verdicts.{VerdictIs}
 use Rattle.samples.specs.declared.Call.{Call}
@@ -30,6 +31,17 @@ Taken k (Some (Join a b)) = MayJoin k a b
 abbrev pub AllTaken : Contents → List (Option Call) → Type 0
 AllTaken k [] = Unit {0}
 AllTaken k (c ∷ calls) = Taken k c × AllTaken (called k c) calls
+
+-- the plan refuses the call for this
+abbrev pub Refuses : Contents → Option Call → Refusal → Type 0
+Refuses k None e = ⊥
+Refuses k (Some (Register h)) e = Registers k h (Err e) k
+Refuses k (Some (Join a b)) e = Joins k a b (Err e) k
+
+-- the first call that is refused is refused for this
+abbrev pub FirstRefused : Contents → List (Option Call) → Refusal → Type 0
+FirstRefused k [] e = ⊥
+FirstRefused k (c ∷ calls) e = Refuses k c e ⊎ (Taken k c × FirstRefused (called k c) calls e)
 
 -- no call is refused, and a plan can hold what the calls make; the codes make a lawful discipline; for these rows the verdict is the model's, and there is no other
 pub record Known (x : Sample) : Type 0 where
