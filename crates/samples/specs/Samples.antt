@@ -18,17 +18,21 @@ abbrev pub on : ℕ → ℕ → ℕ → ℕ → ℕ → Option Call
 on core shortest longest period offset =
     Some (Register (record { period = period; offset = offset; shortest = shortest; longest = longest; core = core }))
 
+-- joins the handler of number a before that of number b
 abbrev pub before : ℕ → ℕ → Option Call
 before a b = Some (Join a b)
 
+-- a row of the table
 abbrev pub row : List (Option Call) → List Code → ℕ → ℕ → Verdict → Sample
 row calls codes working marks verdict = record { calls = calls; codes = codes; working = working; marks = marks; verdict = verdict }
 
 -- ---- codes
 
+-- fixed priority on every core
 abbrev pub all_fixed : List Code
 all_fixed = replicate 8 FixedPriority
 
+-- rate-monotonic on every core
 abbrev pub all_monotonic : List Code
 all_monotonic = replicate 8 RateMonotonic
 
@@ -38,6 +42,7 @@ deadline_on_two = RateMonotonic ∷ EarliestDeadline ∷ replicate 6 RateMonoton
 
 -- ---- calls, in eight rows
 
+-- no calls: the empty plan
 abbrev pub nothing : List (Option Call)
 nothing = replicate 8 None
 
@@ -72,6 +77,7 @@ late_first = on 1 1 1 4 4 ∷ on 1 1 1 4 0 ∷ on 2 1 1 4 0 ∷ on 2 2 2 4 0 ∷
 
 -- ---- the table
 
+-- each with the calls, the codes, the rows of a working table, the rows of the mark table, and the verdict
 abbrev pub samples : List Sample
 samples =
     row nothing all_fixed 128 128 (Kept 1 1)
