@@ -98,7 +98,7 @@ samples =
 abbrev pub SamplesKnown : Type 0
 SamplesKnown = (x : Sample) → Has samples x → Known x
 
--- the plan with the handler that is released late, by fixed priority: in every run handler 4 has 1 left at time 2, and 0 a round later
+-- of the plan with a late release, by fixed priority: whatever the run, one unit is left of number 4 at time 2, and none a round after
 abbrev pub LateFirstLeft : Type 0
 LateFirstLeft =
     (run : ℕ → State) → Run (plan_of (row late_first all_fixed 128 128 (Kept 1 1))) (coded all_fixed) run
