@@ -1,2 +1,3 @@
 pub mod Spreading
 pub mod Advancing
+pub mod Onward

@@ -1,10 +1,11 @@
 -- The states of a time, as rows of a table, and those of the next time.
-use Rattle.std.specs.Prelude.{ℕ, ◌<◌, ◌⊎◌, List, length, Result, MatchResult}
+use Rattle.std.specs.Prelude.{◌≡◌, ℕ, ◌<◌, ◌⊎◌, List, length, Result, MatchResult, ◌-◌, drop, replicate}
 use Rattle.std.specs.List.{Contains as Has}
 use Rattle.gather.specs.Levels.{Once}
 use Rattle.order.specs.Laws.{Choice}
-use Rattle.plan.specs.Contents.{Contents}
+use Rattle.plan.specs.Contents.{Contents, count}
 use Rattle.model.specs.Units.{Step}
+use Rattle.model.specs.Runs.{StateAt}
 use Rattle.step.specs.declared.states.State.{State}
 use Rattle.step.specs.Memory.{times, RestSame}
 use Rattle.fronts.specs.declared.NoRoom.{NoRoom}
@@ -33,3 +34,9 @@ pub record Overrun (P : State → Type 0) (front : List State) (room : ℕ) : Ty
 -- what putting in the rows of which P holds answers and leaves
 abbrev pub Joins : (State → Type 0) → ℕ → List State → Result (Unit {0}) NoRoom → List State → Type 0
 Joins P room front result after = MatchResult result (λ _. Joined P front after) (λ _. Overrun P front room)
+
+-- the rows are the states at t: each has a row, each row is one, and the places past the last handler are 0
+pub record Front (p : Contents) (D : Choice) (t : ℕ) (rows : List State) : Type 0 where
+  pub each : (v : List ℕ) → StateAt p D t v → (x : State) × Has rows x × (times p x ≡ v)
+  pub only : (x : State) → Has rows x → StateAt p D t (times p x)
+  pub blank : (x : State) → Has rows x → drop (count p) x.left ≡ replicate (64 - count p) 0

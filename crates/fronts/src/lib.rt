@@ -1,9 +1,11 @@
 // Fronts: the states of one time in a table, and from them those of the next time in another.
 #![tactic(auto)]
 
-ghost use Rattle.std.specs.Prelude.{◌≡◌, []};
+ghost use Rattle.std.specs.Prelude.{◌≡◌, ◌+◌, [], MatchResult};
 ghost use Rattle.plan.specs.Contents.{contents};
-ghost use Rattle.fronts.specs.Fronts.{StepsTo, FollowsOne, Joins};
+ghost use Rattle.model.specs.Runs.{StateAt};
+ghost use Rattle.model.specs.Verdicts.{Outnumber};
+ghost use Rattle.fronts.specs.Fronts.{StepsTo, FollowsOne, Joins, Front};
 
 use gather::tables::{Inserted, Table};
 use order::disciplines::Discipline;
@@ -45,6 +47,7 @@ pub fn advance<D: Discipline, W: Table<Item = State>>(
     back: &mut W,
 ) -> Result<(), NoRoom>
     ensures joins { Joins (FollowsOne (contents plan.now) (D.first d.now) t (W.members front.now)) (W.room back.old) [] result (W.members back.new) }
+    ensures onward { Front (contents plan.now) (D.first d.now) t (W.members front.now) → MatchResult result (λ _. Front (contents plan.now) (D.first d.now) (t + 1) (W.members back.new)) (λ _. Outnumber (StateAt (contents plan.now) (D.first d.now) (t + 1)) (W.room back.old)) }
     ensures same_room { W.room back.new ≡ W.room back.old }
     ensures frame { (s : W) × W.emptied back.old s × W.extended s back.new }
 {

@@ -1,0 +1,83 @@
+-- From the states at a time to those at the next.
+use Rattle.std.proofs.Common.{◌≡◌, ℕ, suc, ◌+◌, ◌-◌, ◌<◌, List, [], ◌++◌, map, length, get_or, take, drop, replicate, sym, ap, ◌∙◌, inl, inr, arith}
+use Rattle.std.specs.List.{Contains as Has}
+use Rattle.std.proofs.lemmas.List.{length-drop, length-append, take-append-le, drop-append-le, take_all, drop_all}
+use Rattle.std.proofs.lemmas.List.{take-append-drop, length-map, get_or-map}
+use Rattle.std.proofs.lemmas.List.Elements.{Contains-get_or}
+use Rattle.gather.specs.Levels.{Once}
+use Rattle.order.specs.Laws.{Choice}
+use Rattle.plan.specs.Contents.{Contents, Sound, count}
+use Rattle.model.specs.Units.{Step}
+use Rattle.model.specs.Runs.{StateAt}
+use Rattle.model.specs.Verdicts.{Outnumber}
+use Rattle.model.proofs.Lists.{has_map_cases}
+use Rattle.model.proofs.Extend.{beginnings_go_on}
+use Rattle.step.specs.declared.states.State.{State}
+use Rattle.step.specs.Memory.{times}
+use Rattle.step.specs.Same.{state_one}
+use Rattle.fronts.specs.Fronts.{FollowsOne, Joined, Overrun, Front}
+
+module _ (p : Contents) (D : Choice) (ok : Sound p) (t : ℕ) where
+  -- the row of a state that follows the row s
+  row_of : (s : State) (v : List ℕ) → length v ≡ count p → (x : State) × (times p x ≡ v) × (drop (count p) x.left ≡ drop (count p) s.left)
+  row_of s v long =
+      let n = count p in
+      let rest = drop n s.left in
+      let len : length (v ++ rest) ≡ 64 = omega (arith, length-append v rest, length-drop n s.left, s.whole, long, ok.few) in (
+        record { left = v ++ rest; whole = len },
+        take-append-le n v rest (omega (arith, long)) ∙ take_all n v (omega (arith, long)),
+        drop-append-le n v rest (omega (arith, long)) ∙ ap (λ l. l ++ rest) (drop_all n v (omega (arith, long))),
+      )
+
+  module _ (front back : List State) (f : Front p D t front) (j : Joined (FollowsOne p D t front) [] back) where
+    follows : (x : State) → Has back x → FollowsOne p D t front x
+    follows x h = elim (j.only x h) [ inl n ↦ absurd (omega (arith, n.1)) | inr g ↦ g ]
+
+    after_it : Front p D (suc t) back
+    after_it = record {
+      each = λ v a.
+          let b = (beginnings_go_on p D ok t v).0 a in
+          let r = f.each b.0 b.1 in
+          let step : Step p D t (times p r.0) v = rw r.2 b.2 in
+          let x = row_of r.0 v step.2.long in
+          (x.0, j.new x.0 (r.0, r.1, (rw x.1 step, x.2)), x.1);
+      only = λ x h. (let g = follows x h in (beginnings_go_on p D ok t (times p x)).1 (times p g.0, f.only g.0 g.1, g.2.0));
+      blank = λ x h. (let g = follows x h in g.2.1 ∙ f.blank g.0 g.1);
+    }
+
+    pub front_onward : Front p D (t + 1) back
+    front_onward = let e : t + 1 ≡ suc t = omega arith in rw e after_it
+
+  -- where more rows follow than there is room for, there are more states at the next time
+  module _ (front : List State) (f : Front p D t front) (room : ℕ) (o : Overrun (FollowsOne p D t front) [] room) (d : State) where
+    one : (x : State) → Has o.rows x → FollowsOne p D t front x
+    one x h = elim (o.such x h) [ inl n ↦ absurd (omega (arith, n.1)) | inr g ↦ g ]
+
+    at_next : (x : State) → Has o.rows x → StateAt p D (suc t) (times p x)
+    at_next x h = let g = one x h in (beginnings_go_on p D ok t (times p x)).1 (times p g.0, f.only g.0 g.1, g.2.0)
+
+    blank : (x : State) → Has o.rows x → drop (count p) x.left ≡ replicate (64 - count p) 0
+    blank x h = let g = one x h in g.2.1 ∙ f.blank g.0 g.1
+
+    once_times : Once (map (times p) o.rows)
+    once_times i j e lt end same =
+        let jl : j < length o.rows = omega (arith, length-map o.rows (times p)) in
+        let il : i < length o.rows = omega (arith, jl) in
+        let x = get_or o.rows i d in
+        let y = get_or o.rows j d in
+        let n = count p in
+        let left : times p x ≡ times p y = sym (get_or-map (times p) o.rows i d e il) ∙ same ∙ get_or-map (times p) o.rows j d e jl in
+        let rest : drop n x.left ≡ drop n y.left = blank x (Contains-get_or o.rows i d il) ∙ sym (blank y (Contains-get_or o.rows j d jl)) in
+        let is : x.left ≡ y.left = sym (take-append-drop n x.left) ∙ ap (λ l. l ++ drop n x.left) left ∙ ap (λ l. take n y.left ++ l) rest ∙ take-append-drop n y.left in
+        o.once i j d lt jl (state_one x y is)
+
+    outnumber_suc : Outnumber (StateAt p D (suc t)) room
+    outnumber_suc = record {
+      states = map (times p) o.rows;
+      once = once_times;
+      such = λ v h. (let r = has_map_cases (times p) v o.rows h in rw (← r.2) (at_next r.0 r.1));
+      many = omega (arith, o.many, length-map o.rows (times p));
+    }
+
+    pub outnumbered : Outnumber (StateAt p D (t + 1)) room
+    outnumbered = let e : t + 1 ≡ suc t = omega arith in rw e outnumber_suc
