@@ -1,13 +1,10 @@
 -- One test of the whole table, and what it says of each row.
-use Rattle.std.proofs.Common.{◌≡◌, ℕ, Bool, true, ◌&&◌, List, sym, refl, ap, ap₂, true≢false}
+use Rattle.std.proofs.Common.{◌≡◌, ℕ, Bool, true, ◌&&◌, sym, refl, ap, ap₂, true≢false}
 use Rattle.std.specs.Prelude.{Some, Option, ◌==◌}
 use Rattle.std.specs.List.{list_all}
 use Rattle.std.proofs.lemmas.Bool.{eqb-true, and_parts}
-use Rattle.order.specs.Laws.{IsLawfulRanking, IsLawfulChoice}
-use Rattle.order.specs.Lawful.{by_number_lawful, by_period_lawful, by_distance_lawful, numbered_lawful}
-use Rattle.banks.specs.declared.codes.Code.{Code}
-use Rattle.banks.specs.declared.codes.Code.TheVariants.{FixedPriority, RateMonotonic, EarliestDeadline}
-use Rattle.banks.specs.Codes.{ranks_by, code_at, coded}
+use Rattle.banks.proofs.Lawful.{coded_lawful}
+use Rattle.banks.specs.Codes.{coded}
 use Rattle.plan.specs.Contents.{empty}
 use Rattle.model.specs.declared.verdicts.Rows.TheVariants.{Working, Marks}
 use Rattle.model.specs.declared.verdicts.Verdict.{Verdict}
@@ -32,19 +29,6 @@ answers_is (Some (Missed t n)) (Missed s m) e = let r = and_parts (t == s) (n ==
 answers_is (Some (RowsShort Working t)) (RowsShort Working s) e = ap (λ x. Some (RowsShort Working x)) (eqb-true t s e)
 answers_is (Some (RowsShort Marks t)) (RowsShort Marks s) e = ap (λ x. Some (RowsShort Marks x)) (eqb-true t s e)
 answers_is o v e = absurd (true≢false (sym e))
-
-code_lawful : (c : Code) → IsLawfulRanking (ranks_by c)
-code_lawful FixedPriority = by_number_lawful
-code_lawful RateMonotonic = by_period_lawful
-code_lawful EarliestDeadline = by_distance_lawful
-
-pub coded_lawful : (codes : List Code) → IsLawfulChoice (coded codes)
-coded_lawful codes =
-    record {
-      reverses = λ k a b t. (numbered_lawful (ranks_by (code_at codes k)) (code_lawful (code_at codes k))).reverses k a b t;
-      carries = λ k a b d t. (numbered_lawful (ranks_by (code_at codes k)) (code_lawful (code_at codes k))).carries k a b d t;
-      repeats = λ k a b t p. (numbered_lawful (ranks_by (code_at codes k)) (code_lawful (code_at codes k))).repeats k a b t p;
-    }
 
 -- the calls are all taken and make a plan, and the first verdict within twenty units is the one named
 abbrev pub is_right : Sample → Bool

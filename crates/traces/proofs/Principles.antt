@@ -5,11 +5,9 @@ use Rattle.std.proofs.lemmas.Bool.Decides.{nat_tests}
 use Rattle.order.specs.declared.cores.Core.{Core}
 use Rattle.order.specs.declared.candidates.Candidate.{Candidate}
 use Rattle.order.specs.Deadlines.{distance}
-use Rattle.order.specs.Laws.{IsLawfulChoice, IsLawfulRanking}
 use Rattle.order.specs.Meanings.{by_rank, numbered}
 use Rattle.std.specs.Ordering.{nat_cmp}
 use Rattle.order.specs.Distances.{distance_next, next_distance}
-use Rattle.order.specs.Lawful.{by_number_lawful, by_period_lawful, by_distance_lawful, numbered_lawful}
 use Rattle.banks.specs.declared.codes.Code.{Code}
 use Rattle.banks.specs.declared.codes.Code.TheVariants.{FixedPriority, RateMonotonic, EarliestDeadline}
 use Rattle.banks.specs.Codes.{ranks_by, code_at, coded}
@@ -19,20 +17,7 @@ use Rattle.model.proofs.Asking.{OfPlace, of_place, core_of, candidate_of}
 use Rattle.traces.specs.Priorities.{Distance, LessOrFirst, Higher, by_principles}
 use Rattle.traces.proofs.Meeting.{Agrees}
 
--- ---- a choice by codes has the laws
-
-ranks_lawful : (code : Code) → IsLawfulRanking (ranks_by code)
-ranks_lawful FixedPriority = by_number_lawful
-ranks_lawful RateMonotonic = by_period_lawful
-ranks_lawful EarliestDeadline = by_distance_lawful
-
-pub coded_lawful : (codes : List Code) → IsLawfulChoice (coded codes)
-coded_lawful codes = record { reverses = λ k. (law k).reverses k; carries = λ k. (law k).carries k; repeats = λ k. (law k).repeats k }
-  where
-    law : (k : Core) → IsLawfulChoice (numbered (ranks_by (code_at codes k)))
-    law k = numbered_lawful (ranks_by (code_at codes k)) (ranks_lawful (code_at codes k))
-
--- ---- and says what the priorities say
+-- ---- a choice by codes says what the priorities say
 
 -- the test that numbering makes, as a relation
 tells_rank : (x y a b : ℕ) → by_rank (nat_cmp x y) (suc a) (suc b) ≡ true ↔ LessOrFirst x a y b

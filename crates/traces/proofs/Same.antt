@@ -16,7 +16,8 @@ use Rattle.traces.proofs.Meeting.{Agrees}
 use Rattle.traces.proofs.Together.{current_at}
 use Rattle.traces.proofs.There.{there}
 use Rattle.traces.proofs.Back.{back}
-use Rattle.traces.proofs.Principles.{coded_lawful, principles_agree}
+use Rattle.banks.proofs.Lawful.{coded_lawful}
+use Rattle.traces.proofs.Principles.{principles_agree}
 
 -- a time at which somebody may be late ends a period
 ends : (o q t : ℕ) → 1 ≤ q → o + q ≤ t → q ∣ t - o → (k : ℕ) × (o + suc k * q ≡ t)
