@@ -1,5 +1,5 @@
 -- From the states at a time to those at the next.
-use Rattle.std.proofs.Common.{◌≡◌, ℕ, suc, ◌+◌, ◌-◌, ◌<◌, List, [], ◌++◌, map, length, get_or, take, drop, replicate, sym, ap, ◌∙◌, inl, inr, arith}
+use Rattle.std.proofs.Common.{◌≡◌, ℕ, suc, ◌+◌, ◌-◌, ◌<◌, List, [], ◌++◌, map, length, get_or, take, drop, refl, sym, ap, ◌∙◌, inl, inr, arith}
 use Rattle.std.specs.List.{Contains as Has}
 use Rattle.std.proofs.lemmas.List.{length-drop, length-append, take-append-le, drop-append-le, take_all, drop_all}
 use Rattle.std.proofs.lemmas.List.{take-append-drop, length-map, get_or-map}
@@ -15,7 +15,7 @@ use Rattle.model.proofs.Extend.{beginnings_go_on}
 use Rattle.step.specs.declared.states.State.{State}
 use Rattle.step.specs.Memory.{times}
 use Rattle.step.specs.Same.{state_one}
-use Rattle.fronts.specs.Fronts.{FollowsOne, Joined, Overrun, Front}
+use Rattle.fronts.specs.Fronts.{FollowsOne, Joined, Overrun, Holds, Front}
 
 module _ (p : Contents) (D : Choice) (ok : Sound p) (t : ℕ) where
   -- the row of a state that follows the row s
@@ -38,11 +38,14 @@ module _ (p : Contents) (D : Choice) (ok : Sound p) (t : ℕ) where
       each = λ v a.
           let b = (beginnings_go_on p D ok t v).0 a in
           let r = f.each b.0 b.1 in
-          let step : Step p D t (times p r.0) v = rw r.2 b.2 in
+          let step : Step p D t (times p r.0) v = rw r.2.left b.2 in
           let x = row_of r.0 v step.2.long in
-          (x.0, j.new x.0 (r.0, r.1, (rw x.1 step, x.2)), x.1);
-      only = λ x h. (let g = follows x h in (beginnings_go_on p D ok t (times p x)).1 (times p g.0, f.only g.0 g.1, g.2.0));
-      blank = λ x h. (let g = follows x h in g.2.1 ∙ f.blank g.0 g.1);
+          (x.0, j.new x.0 (r.0, r.1, (rw x.1 step, x.2)), record { left = x.1; blank = x.2 ∙ r.2.blank });
+      only = λ x h.
+          let g = follows x h in
+          let r = f.only g.0 g.1 in
+          let from : StateAt p D t (times p g.0) = rw r.2.left r.1 in
+          (times p x, (beginnings_go_on p D ok t (times p x)).1 (times p g.0, from, g.2.0), record { left = refl; blank = g.2.1 ∙ r.2.blank });
     }
 
     pub front_onward : Front p D (t + 1) back
@@ -53,11 +56,12 @@ module _ (p : Contents) (D : Choice) (ok : Sound p) (t : ℕ) where
     one : (x : State) → Has o.rows x → FollowsOne p D t front x
     one x h = elim (o.such x h) [ inl n ↦ absurd (omega (arith, n.1)) | inr g ↦ g ]
 
-    at_next : (x : State) → Has o.rows x → StateAt p D (suc t) (times p x)
-    at_next x h = let g = one x h in (beginnings_go_on p D ok t (times p x)).1 (times p g.0, f.only g.0 g.1, g.2.0)
-
-    blank : (x : State) → Has o.rows x → drop (count p) x.left ≡ replicate (64 - count p) 0
-    blank x h = let g = one x h in g.2.1 ∙ f.blank g.0 g.1
+    holds_next : (x : State) → Has o.rows x → StateAt p D (suc t) (times p x) × Holds p x (times p x)
+    holds_next x h =
+        let g = one x h in
+        let r = f.only g.0 g.1 in
+        let from : StateAt p D t (times p g.0) = rw r.2.left r.1 in
+        ((beginnings_go_on p D ok t (times p x)).1 (times p g.0, from, g.2.0), record { left = refl; blank = g.2.1 ∙ r.2.blank })
 
     once_times : Once (map (times p) o.rows)
     once_times i j e lt end same =
@@ -67,7 +71,7 @@ module _ (p : Contents) (D : Choice) (ok : Sound p) (t : ℕ) where
         let y = get_or o.rows j d in
         let n = count p in
         let left : times p x ≡ times p y = sym (get_or-map (times p) o.rows i d e il) ∙ same ∙ get_or-map (times p) o.rows j d e jl in
-        let rest : drop n x.left ≡ drop n y.left = blank x (Contains-get_or o.rows i d il) ∙ sym (blank y (Contains-get_or o.rows j d jl)) in
+        let rest : drop n x.left ≡ drop n y.left = (holds_next x (Contains-get_or o.rows i d il)).1.blank ∙ sym (holds_next y (Contains-get_or o.rows j d jl)).1.blank in
         let is : x.left ≡ y.left = sym (take-append-drop n x.left) ∙ ap (λ l. l ++ drop n x.left) left ∙ ap (λ l. take n y.left ++ l) rest ∙ take-append-drop n y.left in
         o.once i j d lt jl (state_one x y is)
 
@@ -75,7 +79,7 @@ module _ (p : Contents) (D : Choice) (ok : Sound p) (t : ℕ) where
     outnumber_suc = record {
       states = map (times p) o.rows;
       once = once_times;
-      such = λ v h. (let r = has_map_cases (times p) v o.rows h in rw (← r.2) (at_next r.0 r.1));
+      such = λ v h. (let r = has_map_cases (times p) v o.rows h in rw (← r.2) (holds_next r.0 r.1).0);
       many = omega (arith, o.many, length-map o.rows (times p));
     }
 

@@ -35,8 +35,12 @@ pub record Overrun (P : State → Type 0) (front : List State) (room : ℕ) : Ty
 abbrev pub Joins : (State → Type 0) → ℕ → List State → Result (Unit {0}) NoRoom → List State → Type 0
 Joins P room front result after = MatchResult result (λ _. Joined P front after) (λ _. Overrun P front room)
 
--- the rows are the states at t: each has a row, each row is one, and the places past the last handler are 0
+-- the row x holds the state v: the times left of the plan's handlers, and 0 past the last of them
+pub record Holds (p : Contents) (x : State) (v : List ℕ) : Type 0 where
+  pub left : times p x ≡ v
+  pub blank : drop (count p) x.left ≡ replicate (64 - count p) 0
+
+-- the rows are the states at t: each has a row, and each row holds one
 pub record Front (p : Contents) (D : Choice) (t : ℕ) (rows : List State) : Type 0 where
-  pub each : (v : List ℕ) → StateAt p D t v → (x : State) × Has rows x × (times p x ≡ v)
-  pub only : (x : State) → Has rows x → StateAt p D t (times p x)
-  pub blank : (x : State) → Has rows x → drop (count p) x.left ≡ replicate (64 - count p) 0
+  pub each : (v : List ℕ) → StateAt p D t v → (x : State) × Has rows x × Holds p x v
+  pub only : (x : State) → Has rows x → (v : List ℕ) × StateAt p D t v × Holds p x v

@@ -1,10 +1,10 @@
-// Refusals: why a call leaves the plan as it was.
+// Refusals: why a call is not taken, and leaves everything as it was.
 ghost use Rattle.std.specs.Prelude.{◌≡◌};
 ghost use Rattle.terms.specs.Numbers.{refusal_number};
 
 use thiserror::Error;
 
-/// Why a plan takes no handler, no join or no other core.
+/// Why a plan takes no handler, no join or no other core, or a check no tables.
 #[derive(Clone, Copy, PartialEq, Eq, Debug, Error)]
 pub enum Refusal {
     #[error("there are 64 handlers already")]
@@ -23,10 +23,12 @@ pub enum Refusal {
     OtherTimes = 7,
     #[error("the join would close a circle")]
     Circle = 8,
+    #[error("the working tables differ in length, or a table has more than 65535 rows")]
+    UnfitTables = 9,
 }
 
 impl Refusal {
-    /// The refusal's number, 1 to 8.
+    /// The refusal's number, 1 to 9.
     pub fn number(self) -> u8
         ensures { result ≡ refusal_number self }
     {
