@@ -1,0 +1,3 @@
+pub mod Checks
+pub mod Histories
+pub mod Laws
