@@ -7,7 +7,12 @@ ghost use Rattle.model.specs.Runs.{StateAt};
 ghost use Rattle.model.specs.Verdicts.{Outnumber};
 ghost use Rattle.fronts.specs.Fronts.{StepsTo, FollowsOne, Joins, Front};
 
+mod beginning;
+mod lateness;
+
+pub use beginning::begin;
 use gather::tables::{Inserted, Table};
+pub use lateness::first_late;
 use order::disciplines::Discipline;
 use plan::plans::Plan;
 use step::following::Successors;
