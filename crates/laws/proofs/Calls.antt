@@ -5,7 +5,7 @@ use Rattle.std.proofs.lemmas.List.{length_push, length-set, append_assoc, same_f
 use Rattle.terms.specs.declared.handlers.Handler.{Handler}
 use Rattle.plan.specs.Contents.{Contents, count, at}
 use Rattle.plan.specs.Calls.{seated, Registers}
-use Rattle.plan.specs.Histories.{Call, registered, joined, reseated}
+use Rattle.plan.specs.Histories.{registered, joined, reseated}
 use Rattle.laws.specs.Histories.{Event, changes, checks, Makes, After, new, then, Among, History, registers, taken}
 use Rattle.laws.specs.Laws.{CallsFit, RegistersCount}
 use Rattle.laws.proofs.Sounds.{passed, after_one}
@@ -28,8 +28,11 @@ module _ {X : Type 0} where
       elim (last_of rest) [
         | inl q ↦ inl (same_from_push xs before last x (e ∙ ap (λ (l : List X). before ++ x ∷ l) q))
         | inr q ↦
-            inr (q.0, (same_from_push xs (before ++ x ∷ q.0) last q.1
-            (e ∙ ap (λ (l : List X). before ++ x ∷ l) q.2 ∙ sym (append_assoc before (x ∷ q.0) (q.1 ∷ [])))).0)
+            inr (
+              q.0,
+              (same_from_push xs (before ++ x ∷ q.0) last q.1
+                  (e ∙ ap (λ (l : List X). before ++ x ∷ l) q.2 ∙ sym (append_assoc before (x ∷ q.0) (q.1 ∷ [])))).0,
+            )
       ]
 
 -- ---- a call among the others

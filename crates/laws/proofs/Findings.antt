@@ -1,5 +1,5 @@
 -- What a check found among the calls of a history: kept, missed, and the marks that it left.
-use Rattle.std.proofs.Common.{◌≡◌, ℕ, ◌-◌, length, Ok, sym, ap, subst}
+use Rattle.std.proofs.Common.{◌-◌, length, Ok, sym, ap, subst}
 use Rattle.std.specs.Result.{result_unwrap_or}
 use Rattle.order.specs.Laws.{Choice, IsLawfulChoice}
 use Rattle.plan.specs.Contents.{Contents, Sound}
@@ -14,7 +14,7 @@ use Rattle.laws.proofs.Sounds.{passed, after_sound}
 use Rattle.laws.proofs.Calls.{among_made}
 
 -- a check that answers a verdict answers the model's
-pub judged : (k : Contents) (D : Choice) (was is : Tables) (v : Verdict) → Checks k D was (Ok v) is → VerdictIs k D (length was.front) (length was.marks) v
+judged : (k : Contents) (D : Choice) (was is : Tables) (v : Verdict) → Checks k D was (Ok v) is → VerdictIs k D (length was.front) (length was.marks) v
 judged k D was is v c =
     let r = (passed c.answers).1 in
     subst (VerdictIs k D (length was.front) (length was.marks)) (sym (ap (λ x. result_unwrap_or x v) r.2)) r.1

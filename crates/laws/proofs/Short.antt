@@ -1,5 +1,5 @@
 -- A check answers rows short exactly where rows run short, and names the first such table and time.
-use Rattle.std.proofs.Common.{◌≡◌, ℕ, ◌<◌, ◌≤◌, ◌⊎◌, length, sym, refl, ◌∙◌, subst, inl, inr, arith}
+use Rattle.std.proofs.Common.{◌≡◌, ℕ, ◌<◌, ◌≤◌, length, sym, refl, ◌∙◌, subst, inl, inr, arith}
 use Rattle.std.proofs.lemmas.Bool.{cases_lt}
 use Rattle.order.specs.Laws.{Choice}
 use Rattle.plan.specs.Contents.{Contents, Sound}
@@ -7,11 +7,11 @@ use Rattle.model.specs.declared.verdicts.Rows.{Rows}
 use Rattle.model.specs.declared.verdicts.Rows.TheVariants.{Working, Marks}
 use Rattle.model.specs.declared.verdicts.Verdict.{Verdict}
 use Rattle.model.specs.declared.verdicts.Verdict.TheVariants.{Kept, Missed, RowsShort}
-use Rattle.model.specs.Runs.{StateAt, mark, Marked}
-use Rattle.model.specs.Verdicts.{Outnumber, Closes, Timely, Passes, VerdictIs}
+use Rattle.model.specs.Runs.{StateAt}
+use Rattle.model.specs.Verdicts.{Outnumber, Closes, Passes, VerdictIs}
 use Rattle.model.proofs.Marks.{mark_apart}
 use Rattle.laws.specs.Checks.{Tables}
-use Rattle.laws.specs.Laws.{TooFew, EndsAt, TestedBefore, RunsShort, turn, ShortExactly, ShortIsExact}
+use Rattle.laws.specs.Laws.{TooFew, EndsAt, RunsShort, turn, ShortExactly, ShortIsExact}
 use Rattle.laws.proofs.Findings.{found}
 
 module _ (p : Contents) (D : Choice) (ok : Sound p) (x : Tables) where
