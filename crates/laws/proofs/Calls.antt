@@ -1,0 +1,93 @@
+-- Each call of a history was made on what those before it left, and the n-th accepted register answered n.
+use Rattle.std.proofs.Common.{◌≡◌, ℕ, ◌+◌, ◌-◌, ◌⊎◌, List, [], ◌∷◌, ◌++◌, length, Ok, Err, sym, refl, ap, ◌∙◌, subst, inl, inr, arith}
+use Rattle.std.specs.Result.{result_unwrap_or}
+use Rattle.std.proofs.lemmas.List.{length_push, length-set, append_assoc, same_from_push, length-append}
+use Rattle.terms.specs.declared.handlers.Handler.{Handler}
+use Rattle.plan.specs.Contents.{Contents, count, at}
+use Rattle.plan.specs.Calls.{seated, Registers}
+use Rattle.plan.specs.Histories.{registered, joined, reseated}
+use Rattle.laws.specs.Histories.{Event, changes, checks, Makes, After, new, then, Among, History, registers, taken}
+use Rattle.laws.specs.Laws.{CallsFit, RegistersCount}
+use Rattle.laws.proofs.Sounds.{passed, after_one}
+
+-- ---- the last of a list
+
+module _ {X : Type 0} where
+  last_of : (xs : List X) → (xs ≡ []) ⊎ ((ys : List X) × (y : X) × (xs ≡ ys ++ y ∷ []))
+  last_of [] = inl refl
+  last_of (x ∷ xs) =
+      elim (last_of xs) [
+        | inl e ↦ inr ([], x, ap (λ (l : List X). x ∷ l) e)
+        | inr q ↦ inr (x ∷ q.0, q.1, ap (λ (l : List X). x ∷ l) q.2)
+      ]
+
+  -- what stands in a list is its last element, or stands in the list without that
+  last_or_before : (xs before rest : List X) (last x : X) → xs ++ last ∷ [] ≡ before ++ x ∷ rest
+      → ((xs ≡ before) × (last ≡ x)) ⊎ ((fewer : List X) × (xs ≡ before ++ x ∷ fewer))
+  last_or_before xs before rest last x e =
+      elim (last_of rest) [
+        | inl q ↦ inl (same_from_push xs before last x (e ∙ ap (λ (l : List X). before ++ x ∷ l) q))
+        | inr q ↦
+            inr (
+              q.0,
+              (same_from_push xs (before ++ x ∷ q.0) last q.1
+                  (e ∙ ap (λ (l : List X). before ++ x ∷ l) q.2 ∙ sym (append_assoc before (x ∷ q.0) (q.1 ∷ [])))).0,
+            )
+      ]
+
+-- ---- a call among the others
+
+-- the call was made on what the calls before it left
+abbrev Made : List Event → Event → Type 0
+Made before event = (k : Contents) × (next : Contents) × After before k × Makes k event next
+
+made_after : (whole : List Event) (left : Contents) → After whole left → (before rest : List Event) (event : Event) → whole ≡ before ++ event ∷ rest → Made before event
+made_after _ _ new before rest event e = absurd (omega (arith, ap length e, length-append before (event ∷ rest)))
+made_after _ _ (then {events} {k} {next} last after makes) before rest event e =
+    elim (last_or_before events before rest last event e) [
+      | inl q ↦ (k, next, subst (λ l. After l k) q.0 after, subst (λ x. Makes k x next) q.1 makes)
+      | inr q ↦ made_after events k after before q.0 event q.1
+    ]
+
+pub calls_fit : CallsFit
+calls_fit h before rest event e =
+    let m = made_after h.events h.left h.after before rest event e in
+    (m.0, m.1, m.2, m.3, λ l a. after_one before m.0 l m.2 a)
+
+-- so was one that stands among the calls of a history
+pub among_made : (h : History) (k : Contents) (event : Event) → Among h.events k event → (next : Contents) × Makes k event next
+among_made h k event a =
+    let m = made_after h.events h.left h.after a.before a.rest event a.whole in
+    (m.1, subst (λ x. Makes x event m.1) (after_one a.before k m.0 a.held m.2) m.3)
+
+-- ---- the numbers of registers
+
+taken_push : (events : List Event) (event : Event) → length (taken (events ++ event ∷ [])) ≡ length (taken events) + length (registers event)
+taken_push [] event = omega (arith, length-append (registers event) [])
+taken_push (x ∷ events) event =
+    omega (arith, taken_push events event, length-append (registers x) (taken events), length-append (registers x) (taken (events ++ event ∷ [])))
+
+count_after : (k next : Contents) (event : Event) → Makes k event next → count next ≡ count k + length (registers event)
+count_after k next (changes (registered h (Ok n))) m = ap count m.leaves ∙ length_push k.handlers h
+count_after k next (changes (registered h (Err e))) m = omega (arith, ap count m.leaves)
+count_after k next (changes (joined a b (Ok u))) m = omega (arith, ap count m.leaves)
+count_after k next (changes (joined a b (Err e))) m = omega (arith, ap count m.leaves)
+count_after k next (changes (reseated n c (Ok u))) m = let e = ap count m.leaves in omega (arith, e, length-set k.handlers (n - 1) (seated (at k (n - 1)) c))
+count_after k next (changes (reseated n c (Err e))) m = omega (arith, ap count m.leaves)
+count_after k next (checks D was r is) m = omega (arith, ap count m.2)
+
+taken_count : (events : List Event) (k : Contents) → After events k → length (taken events) ≡ count k
+taken_count _ _ new = refl
+taken_count _ _ (then {events} {k} {next} event before made) =
+    omega (arith, taken_push events event, taken_count events k before, count_after k next event made)
+
+number_is : (k next : Contents) (h : Handler) (n : ℕ) → Registers k h (Ok n) next → n ≡ count k + 1
+number_is k next h n m =
+    let fields = (passed m.answers).1 in
+    let seats = (passed (passed (passed fields).1).1).1 in
+    ap (λ r. result_unwrap_or r 0) (passed seats).1
+
+pub registers_count : RegistersCount
+registers_count h before rest x n e =
+    let m = made_after h.events h.left h.after before rest (changes (registered x (Ok n))) e in
+    omega (arith, number_is m.0 m.1 x n m.3, taken_count before m.0 m.2)
