@@ -2,6 +2,7 @@
 use Rattle.std.specs.Prelude.{◌≡◌, ℕ, ◌+◌, ◌-◌, ◌<◌, ◌≤◌, List, length, Result, MatchResult}
 use Rattle.order.specs.Laws.{Choice}
 use Rattle.plan.specs.Contents.{Contents, contents, round}
+use Rattle.model.specs.declared.verdicts.Rows.TheVariants.{Working, Marks}
 use Rattle.model.specs.declared.verdicts.Verdict.{Verdict}
 use Rattle.model.specs.declared.verdicts.Verdict.TheVariants.{Kept, Missed, RowsShort}
 use Rattle.model.specs.Runs.{StateAt}
@@ -21,6 +22,13 @@ pub record Reached (p : Contents) (D : Choice) (w t : ℕ) (rows : List State) :
   pub front : Front p D t rows
   pub quiet : (e : ℕ) → e ≤ t → Quiet p D w e
 
+-- one of the first two tests gives it
+abbrev pub Early : Verdict → Type 0
+Early (Kept k c) = ⊥
+Early (Missed t n) = Unit {0}
+Early (RowsShort Working t) = Unit {0}
+Early (RowsShort Marks t) = ⊥
+
 -- this verdict came at a time from `from` to `last`, by one of the first two tests, and all was quiet before
 pub record Stopped (p : Contents) (D : Choice) (w from last : ℕ) (v : Verdict) : Type 0 where
   pub time : ℕ
@@ -28,6 +36,7 @@ pub record Stopped (p : Contents) (D : Choice) (w from last : ℕ) (v : Verdict)
   pub high : time ≤ last
   pub quiet : (e : ℕ) → e < time → Quiet p D w e
   pub gives : (m : ℕ) → Gives p D w m time v
+  pub early : Early v
 
 -- times that a clock can show are below this
 abbrev pub end_of_time : ℕ
@@ -35,35 +44,41 @@ end_of_time = 18446744073709551616
 
 -- by the meaning of a discipline, and by the rows of a table and how many it has room for
 module _ {D W : Type 0} (first : D → Choice) (members : W → List State) (room : W → ℕ) where
-  -- they stand at t, with tables of w rows
-  pub record Stands (w t : ℕ) (s : Rounds D W) : Type 0 where
-    pub clock : s.time ≡ t
+  -- they stand at their time, with tables of w rows
+  pub record Stands (w : ℕ) (s : Rounds D W) : Type 0 where
     pub front_room : room s.front ≡ w
     pub back_room : room s.back ≡ w
-    pub reached : Reached (contents s.plan.now) (first s.d.now) w t (members s.front)
+    pub reached : Reached (contents s.plan.now) (first s.d.now) w s.time (members s.front)
+
+  -- they stand there so many units after s
+  pub record Later (units w : ℕ) (s u : Rounds D W) : Type 0 where
+    pub clock : u.time ≡ s.time + units
+    pub stands : Stands w u
 
   -- they are of one plan, under one discipline
   pub record SamePlan (s u : Rounds D W) : Type 0 where
     pub plan : u.plan.now ≡ s.plan.now
     pub d : u.d.now ≡ s.d.now
 
+  -- a verdict comes within so many units
+  abbrev pub Halts : ℕ → ℕ → Rounds D W → Verdict → Type 0
+  Halts units w s v = Stopped (contents s.plan.now) (first s.d.now) w (s.time + 1) (s.time + units) v
+
+  -- they stand somewhere, and so many units on the clock does not yet stop
+  abbrev pub Goes : ℕ → ℕ → Rounds D W → Type 0
+  Goes units w s = Stands w s × (s.time + units < end_of_time)
+
   -- so many units on, from wherever they stood: they stand there, or a verdict came on the way
   abbrev pub Walks : ℕ → Rounds D W → Rounds D W → Result (Unit {0}) Verdict → Type 0
-  Walks units s u r =
-      (w t : ℕ) → t + units < end_of_time → Stands w t s
-      → MatchResult r (λ _. Stands w (t + units) u) (Stopped (contents s.plan.now) (first s.d.now) w (t + 1) (t + units))
+  Walks units s u r = (w : ℕ) → Goes units w s → MatchResult r (λ _. Later units w s u) (Halts units w s)
 
   -- a whole round on
-  abbrev pub Steps : Rounds D W → Rounds D W → Type 0
-  Steps s u =
-      SamePlan s u
-      × ((w t : ℕ) → t + round (contents s.plan.now) < end_of_time → Stands w t s → Stands w (t + round (contents s.plan.now)) u)
+  abbrev pub Rounded : Rounds D W → Rounds D W → Type 0
+  Rounded s u = SamePlan s u × ((w : ℕ) → Goes (round (contents s.plan.now)) w s → Later (round (contents s.plan.now)) w s u)
 
   -- or a verdict comes on the way
-  abbrev pub Halts : Rounds D W → Verdict → Type 0
-  Halts s v =
-      (w t : ℕ) → t + round (contents s.plan.now) < end_of_time → Stands w t s
-      → Stopped (contents s.plan.now) (first s.d.now) w (t + 1) (t + round (contents s.plan.now)) v
+  abbrev pub Ended : Rounds D W → Verdict → Type 0
+  Ended s v = (w : ℕ) → Goes (round (contents s.plan.now)) w s → Halts (round (contents s.plan.now)) w s v
 
 -- where the verdict is kept, the rows are the marks, so many of them
 abbrev pub KeptRows : Contents → Choice → Verdict → List State → Type 0
