@@ -1,0 +1,131 @@
+-- What calls leave is sound, and is one for each history.
+use Rattle.std.proofs.Common.{◌≡◌, ℕ, ◌-◌, ◌<◌, ◌≤◌, ◌≢◌, ◌⊎◌, List, length, Ok, Err, is_ok, sym, refl, ap, ◌∙◌, subst, subst₂, inl, inr, true≢false, arith}
+use Rattle.std.proofs.lemmas.Bool.{cases_eq, cases_lt}
+use Rattle.std.proofs.lemmas.List.{length_push, same_from_push}
+use Rattle.terms.specs.declared.handlers.Handler.{Handler}
+use Rattle.terms.specs.declared.refusals.Refusal.{Refusal}
+use Rattle.plan.specs.Rows.{longest_round}
+use Rattle.plan.specs.Joins.{Chain, one, more}
+use Rattle.plan.specs.Contents.{Contents, count, at, Known, round, empty, Sound}
+use Rattle.plan.specs.Calls.{added, Takes, MayJoin, MaySeat, Registers, Joins, Reseats}
+use Rattle.plan.specs.Histories.{Call, registered, joined, reseated as seats}
+use Rattle.plan.specs.Histories.{Makes as Changes}
+use Rattle.plan.proofs.Answered.{one_answer_each}
+use Rattle.laws.specs.Histories.{Event, changes, checks, Makes, After, new, then}
+use Rattle.laws.proofs.Keeping.{added_sound, join_sound, seat_sound}
+
+-- ---- what is accepted was tested
+
+-- a call that answers Ok has passed the test, and the rest of the tests let it through
+passed : {A P Q : Type 0} {x : A} {why : Refusal} → (P × (Ok x ≡ Err why)) ⊎ ((P → ⊥) × Q) → (P → ⊥) × Q
+passed (inl r) = absurd (true≢false (ap is_ok r.1))
+passed (inr r) = r
+
+above : (x y : ℕ) → ¬ (x < y) → y ≤ x
+above x y not = elim (cases_lt x y) [ inl l ↦ absurd (not l) | inr g ↦ g ]
+
+some : (x : ℕ) → ¬ (x ≡ 0) → 1 ≤ x
+some x not = above x 1 (λ l. not (omega arith))
+
+same : (x y : ℕ) → ¬ (x ≢ y) → x ≡ y
+same x y not = elim (cases_eq x y) [ inl e ↦ e | inr ne ↦ absurd (not ne) ]
+
+is_known : (k : Contents) (n : ℕ) → ¬ ¬ Known k n → Known k n
+is_known k n not = (above n 1 (λ l. not (λ q. omega (arith, l, q.0))), above (count k) n (λ l. not (λ q. omega (arith, l, q.1))))
+
+-- the tests let these through
+module _ (k next : Contents) where
+  pub may_take : (h : Handler) (n : ℕ) → Registers k h (Ok n) next → Takes k h
+  may_take h n m =
+      let room = passed m.answers in
+      let period = passed room.1 in
+      let times = passed period.1 in
+      let core = passed times.1 in
+      let short = passed core.1 in
+      record {
+        room = omega (arith, above 63 (count k) (λ l. room.0 (omega (arith, l))));
+        range = (
+          some h.period period.0,
+          some h.shortest (λ e. times.0 (inl e)),
+          above h.longest h.shortest (λ l. times.0 (inr l)),
+          some h.core (λ e. core.0 (inl e)),
+          above 8 h.core (λ l. core.0 (inr l)),
+        );
+        short = above longest_round (round (added k h)) short.0;
+      }
+
+  pub may_join : (a b : ℕ) (u : Unit {0}) → Joins k a b (Ok u) next → MayJoin k a b
+  may_join a b u m =
+      let known = passed m.answers in
+      let timed = passed known.1 in
+      let straight = passed timed.1 in
+      record {
+        known_a = is_known k a (λ q. known.0 (inl q));
+        known_b = is_known k b (λ q. known.0 (inr q));
+        periods = same (at k (a - 1)).period (at k (b - 1)).period (λ ne. timed.0 (inl ne));
+        offsets = same (at k (a - 1)).offset (at k (b - 1)).offset (λ ne. timed.0 (inr ne));
+        straight = straight.0;
+      }
+
+  pub may_seat : (n c : ℕ) (u : Unit {0}) → Reseats k n c (Ok u) next → MaySeat k n c
+  may_seat n c u m =
+      let known = passed m.answers in
+      let core = passed known.1 in
+      record { known = is_known k n known.0; low = some c (λ e. core.0 (inl e)); high = above 8 c (λ l. core.0 (inr l)) }
+
+-- ---- histories
+
+change_sound : (k next : Contents) (call : Call) → Changes k call next → Sound k → Sound next
+change_sound k next (registered h (Ok n)) m s = subst Sound (sym m.leaves) (added_sound k s h (may_take k next h n m))
+change_sound k next (registered h (Err e)) m s = subst Sound (sym m.leaves) s
+change_sound k next (joined a b (Ok u)) m s = subst Sound (sym m.leaves) (join_sound k s a b (may_join k next a b u m))
+change_sound k next (joined a b (Err e)) m s = subst Sound (sym m.leaves) s
+change_sound k next (seats n c (Ok u)) m s = subst Sound (sym m.leaves) (seat_sound k s n c (may_seat k next n c u m))
+change_sound k next (seats n c (Err e)) m s = subst Sound (sym m.leaves) s
+
+pub makes_sound : (k next : Contents) (event : Event) → Makes k event next → Sound k → Sound next
+makes_sound k next (changes call) m s = change_sound k next call m s
+makes_sound k next (checks D was r is) m s = subst Sound (sym m.2) s
+
+empty_sound : Sound empty
+empty_sound = record {
+  few = omega arith;
+  ranges = λ i l. absurd (omega arith);
+  short = omega arith;
+  inside = λ a b j. absurd (true≢false (sym j));
+  periods = λ a b j. absurd (true≢false (sym j));
+  offsets = λ a b j. absurd (true≢false (sym j));
+  no_circle = λ a c. no_chain c;
+}
+  where
+    no_chain : {a b : ℕ} → Chain empty.joined a b → ⊥
+    no_chain (one j) = true≢false (sym j)
+    no_chain (more j c) = no_chain c
+
+-- every history leaves contents that are sound
+pub after_sound : (events : List Event) (k : Contents) → After events k → Sound k
+after_sound _ _ new = empty_sound
+after_sound _ _ (then {events} {k} {next} event before made) = makes_sound k next event made (after_sound events k before)
+
+change_one : (k next other : Contents) (call : Call) → Changes k call next → Changes k call other → other ≡ next
+change_one k next other (registered h r) x y = (one_answer_each.register k h r r next other x y).1
+change_one k next other (joined a b r) x y = (one_answer_each.join k a b r r next other x y).1
+change_one k next other (seats n c r) x y = (one_answer_each.reseat k n c r r next other x y).1
+
+-- a call with its answer leaves one plan
+pub makes_one : (k next other : Contents) (event : Event) → Makes k event next → Makes k event other → other ≡ next
+makes_one k next other (changes call) x y = change_one k next other call x y
+makes_one k next other (checks D was r is) x y = y.2 ∙ sym x.2
+
+-- so do all the calls of a history: the last of them, after those before it
+one_left : (events others : List Event) → others ≡ events → (k l : Contents) → After events k → After others l → l ≡ k
+one_left _ _ e _ _ new new = refl
+one_left _ _ e _ _ new (then {events = before} event a m) = absurd (omega (arith, ap length e, length_push before event))
+one_left _ _ e _ _ (then {events = before} event a m) new = absurd (omega (arith, ap length e, length_push before event))
+one_left _ _ e _ _ (then {events = before} {k} {next} event a m) (then {events = before'} {k = l} {next = other} event' a' m') =
+    let q = same_from_push before' before event' event e in
+    let held : l ≡ k = one_left before before' q.0 k l a a' in
+    makes_one k next other event m (subst₂ (λ x y. Makes x y other) held q.1 m')
+
+pub after_one : (events : List Event) (k l : Contents) → After events k → After events l → l ≡ k
+after_one events k l = one_left events events refl k l
