@@ -1,3 +1,5 @@
+pub mod Alikeness
 pub mod Keeping
 pub mod LastCores
+pub mod Rechecks
 pub mod Sounds

@@ -1,0 +1,143 @@
+-- Alike mixtures of calls leave the same plan, and then equal checks answer the same.
+use Rattle.std.proofs.Common.{◌≡◌, ℕ, zero, suc, ◌+◌, ◌-◌, ◌<◌, ◌≤◌, Bool, true, false, ◌&&◌, ◌||◌, ◌⊎◌, ◌↔◌, List, [], ◌∷◌, ◌++◌, map, length, get_or, Ok, Err, Result, sym, refl, ap, ◌∙◌, subst, ap₂, inl, inr, true≢false, arith, ext_get_or}
+use mathlib.Core.Path.{fun_ext}
+use Rattle.std.specs.Prelude.{◌==◌}
+use Rattle.std.specs.Cmp.{both_ways}
+use Rattle.std.specs.List.{Contains as Has}
+use mathlib.Core.Bool.{or-false}
+use Rattle.std.proofs.lemmas.Bool.{eqb-true, eq-eqb, and_parts, and_from, or_cases, or_left, or_right}
+use Rattle.std.proofs.lemmas.List.{append_assoc, append-nil, length-map, map_push, get_or-map}
+use Rattle.std.proofs.Math.Seq.{map-set_same}
+use Rattle.std.proofs.lemmas.List.Elements.{Contains-append_left, Contains-push, Contains-push_cases}
+use Rattle.order.specs.Laws.{Choice}
+use Rattle.terms.specs.declared.handlers.Handler.{Handler}
+use Rattle.terms.specs.declared.refusals.Refusal.{Refusal}
+use Rattle.terms.specs.declared.refusals.Refusal.TheVariants.{UnfitTables}
+use Rattle.plan.specs.Rows.{blank}
+use Rattle.plan.specs.Contents.{Contents, Sound, count, at}
+use Rattle.plan.specs.Calls.{refuses, seated}
+use Rattle.plan.specs.Histories.{registered, joined, reseated}
+use Rattle.model.specs.declared.verdicts.Verdict.{Verdict}
+use Rattle.model.specs.Verdicts.{VerdictIs}
+use Rattle.model.proofs.Lists.{has_none}
+use Rattle.model.proofs.Unique.{verdict_one}
+use Rattle.laws.specs.Checks.{Tables, Unfit, Judges, Checks}
+use Rattle.laws.specs.Histories.{Event, changes, checks, Makes, After, new, then, History, registers, taken, but_core, JoinTaken, LastCore, Alike}
+use Rattle.laws.specs.Laws.{AlikeChecksAnswerAlike}
+use Rattle.laws.proofs.Sounds.{after_sound}
+use Rattle.laws.proofs.Rechecks.{checks_one}
+use Rattle.laws.proofs.LastCores.{last_core_one, cores_last}
+
+-- ---- the handlers, but for their cores
+
+taken_push : (events : List Event) (event : Event) → taken (events ++ event ∷ []) ≡ taken events ++ registers event
+taken_push [] event = append-nil (registers event)
+taken_push (e ∷ events) event = ap (λ hs. registers e ++ hs) (taken_push events event) ∙ sym (append_assoc (registers e) (taken events) (registers event))
+
+-- the plan's handlers are those taken, but for their cores
+abbrev AreTaken : List Event → Contents → Type 0
+AreTaken events k = map but_core k.handlers ≡ map but_core (taken events)
+
+-- a call that changes no more than cores, and registers nobody
+rows_stay : (events : List Event) (event : Event) (k next : Contents) → AreTaken events k → registers event ≡ []
+    → map but_core next.handlers ≡ map but_core k.handlers → AreTaken (events ++ event ∷ []) next
+rows_stay events event k next are none same =
+    same ∙ are ∙ ap (map but_core) (sym (taken_push events event ∙ ap (λ hs. taken events ++ hs) none ∙ append-nil (taken events)))
+
+rows_made : (events : List Event) (event : Event) (k next : Contents) → AreTaken events k → Makes k event next → AreTaken (events ++ event ∷ []) next
+rows_made events (changes (registered h (Ok n))) k next are m =
+    ap (λ (x : Contents). map but_core x.handlers) m.leaves ∙ map_push but_core k.handlers h ∙ ap (λ hs. hs ++ but_core h ∷ []) are
+    ∙ sym (map_push but_core (taken events) h) ∙ ap (map but_core) (sym (taken_push events (changes (registered h (Ok n)))))
+rows_made events (changes (registered h (Err e))) k next are m = rows_stay events (changes (registered h (Err e))) k next are refl (ap (λ (x : Contents). map but_core x.handlers) m.leaves)
+rows_made events (changes (joined a b (Ok u))) k next are m = rows_stay events (changes (joined a b (Ok u))) k next are refl (ap (λ (x : Contents). map but_core x.handlers) m.leaves)
+rows_made events (changes (joined a b (Err e))) k next are m = rows_stay events (changes (joined a b (Err e))) k next are refl (ap (λ (x : Contents). map but_core x.handlers) m.leaves)
+rows_made events (changes (reseated n c (Ok u))) k next are m =
+    rows_stay events (changes (reseated n c (Ok u))) k next are refl
+    (ap (λ (x : Contents). map but_core x.handlers) m.leaves ∙ map-set_same but_core k.handlers (n - 1) (seated (at k (n - 1)) c) blank refl)
+rows_made events (changes (reseated n c (Err e))) k next are m = rows_stay events (changes (reseated n c (Err e))) k next are refl (ap (λ (x : Contents). map but_core x.handlers) m.leaves)
+rows_made events (checks D was r is) k next are m = rows_stay events (checks D was r is) k next are refl (ap (λ (x : Contents). map but_core x.handlers) m.2)
+
+rows_taken : (events : List Event) (k : Contents) → After events k → AreTaken events k
+rows_taken _ _ new = refl
+rows_taken _ _ (then {events} {k} {next} event before made) = rows_made events event k next (rows_taken events k before) made
+
+-- ---- the joins
+
+-- whether the call joins the handler at the place x before that at y, and is accepted
+abbrev joins_here : Event → ℕ → ℕ → Bool
+joins_here (changes (registered h r)) x y = false
+joins_here (changes (joined a b (Ok u))) x y = suc x == a && suc y == b
+joins_here (changes (joined a b (Err e))) x y = false
+joins_here (changes (reseated n c r)) x y = false
+joins_here (checks D was r is) x y = false
+
+joins_is : (event : Event) (x y : ℕ) → joins_here event x y ≡ true → event ≡ changes (joined (suc x) (suc y) (Ok tt))
+joins_is (changes (registered h r)) x y e = absurd (true≢false (sym e))
+joins_is (changes (joined a b (Ok u))) x y e =
+    let q = and_parts (suc x == a) (suc y == b) e in
+    ap₂ (λ i j. changes (joined i j (Ok tt))) (sym (eqb-true (suc x) a q.0)) (sym (eqb-true (suc y) b q.1))
+joins_is (changes (joined a b (Err f))) x y e = absurd (true≢false (sym e))
+joins_is (changes (reseated n c r)) x y e = absurd (true≢false (sym e))
+joins_is (checks D was r is) x y e = absurd (true≢false (sym e))
+
+is_joins : (event : Event) (x y : ℕ) → event ≡ changes (joined (suc x) (suc y) (Ok tt)) → joins_here event x y ≡ true
+is_joins event x y e = ap (λ z. joins_here z x y) e ∙ and_from (suc x == suc x) (suc y == suc y) (eq-eqb (suc x) (suc x) refl) (eq-eqb (suc y) (suc y) refl)
+
+joined_made : (event : Event) (k next : Contents) → Makes k event next → (x y : ℕ) → next.joined x y ≡ (k.joined x y || joins_here event x y)
+joined_made (changes (registered h (Ok n))) k next m x y = ap (λ (z : Contents). z.joined x y) m.leaves ∙ sym (or-false (k.joined x y))
+joined_made (changes (registered h (Err e))) k next m x y = ap (λ (z : Contents). z.joined x y) m.leaves ∙ sym (or-false (k.joined x y))
+joined_made (changes (joined a b (Ok u))) k next m x y = ap (λ (z : Contents). z.joined x y) m.leaves
+joined_made (changes (joined a b (Err e))) k next m x y = ap (λ (z : Contents). z.joined x y) m.leaves ∙ sym (or-false (k.joined x y))
+joined_made (changes (reseated n c (Ok u))) k next m x y = ap (λ (z : Contents). z.joined x y) m.leaves ∙ sym (or-false (k.joined x y))
+joined_made (changes (reseated n c (Err e))) k next m x y = ap (λ (z : Contents). z.joined x y) m.leaves ∙ sym (or-false (k.joined x y))
+joined_made (checks D was r is) k next m x y = ap (λ (z : Contents). z.joined x y) m.2 ∙ sym (or-false (k.joined x y))
+
+-- who is joined before whom is what was taken
+joins_taken : (events : List Event) (k : Contents) → After events k → (x y : ℕ) → (k.joined x y ≡ true) ↔ JoinTaken events (suc x) (suc y)
+joins_taken _ _ new = λ x y. (λ e. absurd (true≢false (sym e)), λ h. absurd (has_none (changes (joined (suc x) (suc y) (Ok tt))) h))
+joins_taken _ _ (then {events} {k} {next} event before made) = λ x y. (
+  λ e. elim (or_cases (k.joined x y) (joins_here event x y) (sym (joined_made event k next made x y) ∙ e)) [
+    | inl h ↦ Contains-append_left events (event ∷ []) (changes (joined (suc x) (suc y) (Ok tt))) ((joins_taken events k before x y).0 h)
+    | inr h ↦ subst (Has (events ++ event ∷ [])) (joins_is event x y h) (Contains-push events event)
+  ],
+  λ h. joined_made event k next made x y ∙ elim (Contains-push_cases events event (changes (joined (suc x) (suc y) (Ok tt))) h) [
+    | inl m ↦ or_left (k.joined x y) (joins_here event x y) ((joins_taken events k before x y).1 m)
+    | inr e ↦ or_right (k.joined x y) (joins_here event x y) (is_joins event x y e)
+  ],
+)
+
+-- ---- one plan
+
+module _ (h g : History) (alike : Alike h.events g.events) where
+  rows_same : map but_core h.left.handlers ≡ map but_core g.left.handlers
+  rows_same = rows_taken h.events h.left h.after ∙ alike.registers ∙ sym (rows_taken g.events g.left g.after)
+
+  counts_same : count h.left ≡ count g.left
+  counts_same = sym (length-map h.left.handlers but_core) ∙ ap length rows_same ∙ length-map g.left.handlers but_core
+
+  cores_same : (i : ℕ) → i < count h.left → (at h.left i).core ≡ (at g.left i).core
+  cores_same i l =
+      last_core_one g.events (i + 1) (at h.left i).core (at g.left i).core
+      ((alike.cores (i + 1) (at h.left i).core).0 (cores_last h.events h.left h.after i l))
+      (cores_last g.events g.left g.after i (omega (arith, l, counts_same)))
+
+  handlers_same : h.left.handlers ≡ g.left.handlers
+  handlers_same = ext_get_or blank h.left.handlers g.left.handlers counts_same (λ i l.
+      let rows : but_core (at h.left i) ≡ but_core (at g.left i) = sym (get_or-map but_core h.left.handlers i blank blank l) ∙ ap (λ hs. get_or hs i blank) rows_same ∙ get_or-map but_core g.left.handlers i blank blank (omega (arith, l, counts_same)) in
+      ap₂ seated rows (cores_same i l))
+
+  joined_same : h.left.joined ≡ g.left.joined
+  joined_same = fun_ext (λ x. fun_ext (λ y.
+      both_ways (h.left.joined x y) (g.left.joined x y)
+      (λ e. (joins_taken g.events g.left g.after x y).1 ((alike.joins (suc x) (suc y)).0 ((joins_taken h.events h.left h.after x y).0 e)))
+      (λ e. (joins_taken h.events h.left h.after x y).1 ((alike.joins (suc x) (suc y)).1 ((joins_taken g.events g.left g.after x y).0 e)))))
+
+  left_same : h.left ≡ g.left
+  left_same = ap₂ (λ hs f. record { handlers = hs; joined = f }) handlers_same joined_same
+
+pub alike_checks_answer_alike : AlikeChecksAnswerAlike
+alike_checks_answer_alike h g alike = (
+  left_same h g alike,
+  λ D was is other left r s x y front back marks.
+      checks_one g.left (after_sound g.events g.left g.after) D was is other left r s front back marks (subst (λ k. Checks k D was r is) (left_same h g alike) x) y,
+)
