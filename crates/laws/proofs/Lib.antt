@@ -2,5 +2,6 @@ pub mod Alikeness
 pub mod Circles
 pub mod Keeping
 pub mod LastCores
+pub mod MarkRows
 pub mod Rechecks
 pub mod Sounds
