@@ -1,4 +1,5 @@
 pub mod Alikeness
+pub mod Answering
 pub mod Circles
 pub mod Keeping
 pub mod LastCores

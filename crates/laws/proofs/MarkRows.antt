@@ -20,7 +20,7 @@ use Rattle.fronts.specs.Fronts.{Holds}
 use Rattle.laws.specs.Checks.{HoldsMarks, LeavesMarks}
 
 -- the row of these times left, and 0 past the last
-row_of : List ℕ → State
+pub row_of : List ℕ → State
 row_of v = record { left = take 64 (v ++ replicate 64 0); whole = length-take-le 64 (v ++ replicate 64 0) (omega (arith, length-append v (replicate 64 0), length-replicate {A = ℕ} 64 0)) }
 
 module _ (p : Contents) (D : Choice) (ok : Sound p) where
