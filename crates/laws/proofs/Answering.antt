@@ -86,24 +86,33 @@ module _ (k : Contents) (ok : Sound k) (D : Choice) (was : Tables) where
   tables_left (Missed t n) v = (was, same_sizes, tt)
   tables_left (RowsShort rows t) v = (was, same_sizes, tt)
 
+  -- a check that finds this verdict
+  pub check_finds : ¬ Unfit was → (v : Verdict) → VerdictIs k D (length was.front) (length was.marks) v → (is : Tables) × Checks k D was (Ok v) is
+  check_finds fit v found =
+      let x = tables_left v found in
+      (x.0, record { answers = inr (fit, (v, found, refl)); sizes = x.1; leaves = x.2 })
+
+  -- a check with unfit tables
+  pub check_refused : Unfit was → Checks k D was (Err UnfitTables) was
+  check_refused u = record { answers = inl (u, refl); sizes = same_sizes; leaves = refl }
+
   checks_some : (r : Result Verdict Refusal) × (is : Tables) × Checks k D was r is
   checks_some = go unfit_decided
     where
       go : Dec (Unfit was) → (r : Result Verdict Refusal) × (is : Tables) × Checks k D was r is
-      go (yes u) = (Err UnfitTables, was, record { answers = inl (u, refl); sizes = same_sizes; leaves = refl })
+      go (yes u) = (Err UnfitTables, was, check_refused u)
       go (no n) =
           let v = one_verdict k D ok (length was.front) (length was.marks) in
-          let x = tables_left v.0 v.1 in
-          (Ok v.0, x.0, record { answers = inr (n, (v.0, v.1, refl)); sizes = x.1; leaves = x.2 })
+          let x = check_finds n v.0 v.1 in
+          (Ok v.0, x.0, x.1)
 
 -- ---- every call
 
 -- tables of so many rows
-tables : ℕ → ℕ → ℕ → Tables
+abbrev pub tables : ℕ → ℕ → ℕ → Tables
 tables front back marks = record { front = replicate front (row_of []); back = replicate back (row_of []); marks = replicate marks (row_of []) }
 
 pub every_call_answers : EveryCallAnswers
-unfolding tables
 every_call_answers h (registering x) law = let a = registers_some h.left x in (changes (registered x a.0), a.1, refl, a.2)
 every_call_answers h (joining x y) law = let a = joins_some h.left (after_sound h.events h.left h.after) x y in (changes (joined x y a.0), a.1, refl, a.2)
 every_call_answers h (seating n c) law = let a = reseats_some h.left n c in (changes (seats n c a.0), a.1, refl, a.2)
