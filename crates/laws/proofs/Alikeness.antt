@@ -1,5 +1,5 @@
 -- Alike mixtures of calls leave the same plan, and then equal checks answer the same.
-use Rattle.std.proofs.Common.{◌≡◌, ℕ, zero, suc, ◌+◌, ◌-◌, ◌<◌, ◌≤◌, Bool, true, false, ◌&&◌, ◌||◌, ◌⊎◌, ◌↔◌, List, [], ◌∷◌, ◌++◌, map, length, get_or, Ok, Err, Result, sym, refl, ap, ◌∙◌, subst, ap₂, inl, inr, true≢false, arith, ext_get_or}
+use Rattle.std.proofs.Common.{◌≡◌, ℕ, suc, ◌+◌, ◌-◌, ◌<◌, Bool, true, false, ◌&&◌, ◌||◌, ◌↔◌, List, [], ◌∷◌, ◌++◌, map, length, get_or, Ok, Err, sym, refl, ap, ◌∙◌, subst, ap₂, inl, inr, true≢false, arith, ext_get_or}
 use mathlib.Core.Path.{fun_ext}
 use Rattle.std.specs.Prelude.{◌==◌}
 use Rattle.std.specs.Cmp.{both_ways}
@@ -9,20 +9,13 @@ use Rattle.std.proofs.lemmas.Bool.{eqb-true, eq-eqb, and_parts, and_from, or_cas
 use Rattle.std.proofs.lemmas.List.{append_assoc, append-nil, length-map, map_push, get_or-map}
 use Rattle.std.proofs.Math.Seq.{map-set_same}
 use Rattle.std.proofs.lemmas.List.Elements.{Contains-append_left, Contains-push, Contains-push_cases}
-use Rattle.order.specs.Laws.{Choice}
-use Rattle.terms.specs.declared.handlers.Handler.{Handler}
-use Rattle.terms.specs.declared.refusals.Refusal.{Refusal}
-use Rattle.terms.specs.declared.refusals.Refusal.TheVariants.{UnfitTables}
 use Rattle.plan.specs.Rows.{blank}
-use Rattle.plan.specs.Contents.{Contents, Sound, count, at}
-use Rattle.plan.specs.Calls.{refuses, seated}
+use Rattle.plan.specs.Contents.{Contents, count, at}
+use Rattle.plan.specs.Calls.{seated}
 use Rattle.plan.specs.Histories.{registered, joined, reseated}
-use Rattle.model.specs.declared.verdicts.Verdict.{Verdict}
-use Rattle.model.specs.Verdicts.{VerdictIs}
 use Rattle.model.proofs.Lists.{has_none}
-use Rattle.model.proofs.Unique.{verdict_one}
-use Rattle.laws.specs.Checks.{Tables, Unfit, Judges, Checks}
-use Rattle.laws.specs.Histories.{Event, changes, checks, Makes, After, new, then, History, registers, taken, but_core, JoinTaken, LastCore, Alike}
+use Rattle.laws.specs.Checks.{Checks}
+use Rattle.laws.specs.Histories.{Event, changes, checks, Makes, After, new, then, History, registers, taken, but_core, JoinTaken, Alike}
 use Rattle.laws.specs.Laws.{AlikeChecksAnswerAlike}
 use Rattle.laws.proofs.Sounds.{after_sound}
 use Rattle.laws.proofs.Rechecks.{checks_one}

@@ -1,24 +1,22 @@
 -- Every call on a plan has an answer, and leaves something: each of its tests is decided.
-use Rattle.std.proofs.Common.{◌≡◌, ℕ, ◌+◌, ◌-◌, ◌<◌, ◌≤◌, ◌≢◌, ◌⊎◌, List, [], length, replicate, Ok, Err, Result, sym, refl, ap, ◌∙◌, subst, inl, inr, arith}
+use Rattle.std.proofs.Common.{◌≡◌, ℕ, ◌+◌, ◌-◌, ◌<◌, ◌⊎◌, [], length, replicate, Ok, Err, Result, refl, inl, inr}
 use mathlib.Core.Logic.Dec
 use native.Mathlib.Decide.{dec_le, dec_lt, ℕ_discrete}
 use Rattle.std.proofs.lemmas.List.{length-replicate}
-use Rattle.order.specs.Laws.{Choice, IsLawfulChoice}
+use Rattle.order.specs.Laws.{Choice}
 use Rattle.terms.specs.declared.handlers.Handler.{Handler}
 use Rattle.terms.specs.declared.refusals.Refusal.{Refusal}
-use Rattle.terms.specs.declared.refusals.Refusal.TheVariants.{PlanFull, NoPeriod, NoTimes, NoSuchCore, LongRound, NoSuchHandler, OtherTimes, Circle, UnfitTables}
+use Rattle.terms.specs.declared.refusals.Refusal.TheVariants.{UnfitTables}
 use Rattle.plan.specs.Rows.{longest_round}
 use Rattle.plan.specs.Contents.{Contents, Sound, count, at, Known, round}
 use Rattle.plan.specs.Calls.{refuses, accepts, after, added, register_tests, Registers, with_join, join_tests, Joins, reseated, reseat_tests, Reseats}
 use Rattle.plan.specs.Histories.{registered, joined, reseated as seats}
-use Rattle.model.specs.declared.verdicts.Rows.TheVariants.{Working, Marks}
 use Rattle.model.specs.declared.verdicts.Verdict.{Verdict}
 use Rattle.model.specs.declared.verdicts.Verdict.TheVariants.{Kept, Missed, RowsShort}
 use Rattle.model.specs.Verdicts.{VerdictIs}
 use Rattle.model.proofs.Exists.{one_verdict}
-use Rattle.step.specs.declared.states.State.{State}
-use Rattle.laws.specs.Checks.{Tables, Unfit, most_rows, Judges, MarksAfter, SameSizes, Checks}
-use Rattle.laws.specs.Histories.{Event, changes, checks, Makes, History, Question, registering, joining, seating, checking, question, Lawful}
+use Rattle.laws.specs.Checks.{Tables, Unfit, most_rows, MarksAfter, SameSizes, Checks}
+use Rattle.laws.specs.Histories.{changes, checks, registering, joining, seating, checking}
 use Rattle.laws.specs.Laws.{EveryCallAnswers}
 use Rattle.laws.proofs.Circles.{dec_either, chain_decided}
 use Rattle.laws.proofs.MarkRows.{marks_fit, row_of}

@@ -64,8 +64,12 @@ module _ (k : Contents) (ok : Sound k) where
 
     full : a < count k → count k ≤ length seen → ⊥
     full l le =
-        omega (arith, le, length-range_with_len 0 (count k),
-        once_fits (a ∷ seen) (range_with_len 0 (count k)) here_once (λ x h. has_counting 0 (count k) x (omega arith) (omega (arith, here_low l x h))))
+        omega (
+          arith,
+          le,
+          length-range_with_len 0 (count k),
+          once_fits (a ∷ seen) (range_with_len 0 (count k)) here_once (λ x h. has_counting 0 (count k) x (omega arith) (omega (arith, here_low l x h))),
+        )
 
   steps_of_chain : {a b : ℕ} → Chain k.joined a b → (n : ℕ) (seen : List ℕ) → count k ≤ length seen + n → Behind a seen → Steps n a b
   unfolding Steps

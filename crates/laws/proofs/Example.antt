@@ -1,32 +1,25 @@
 -- A history with every kind of answer.
-use Rattle.std.proofs.Common.{◌≡◌, ℕ, suc, ◌+◌, ◌-◌, ◌<◌, ◌≤◌, ◌⊎◌, List, [], ◌∷◌, ◌++◌, length, Ok, Err, Result, sym, refl, ap, ◌∙◌, subst, inl, inr, true≢false, arith}
-use Rattle.std.specs.Prelude.{Some, is_ok}
-use Rattle.std.specs.List.{Contains as Has}
-use Rattle.std.proofs.lemmas.List.{append_assoc, append-nil, length-replicate}
+use Rattle.std.proofs.Common.{◌≡◌, ℕ, ◌+◌, ◌<◌, ◌≤◌, ◌⊎◌, List, [], ◌∷◌, ◌++◌, Ok, Err, sym, refl, subst, inl, inr, true≢false, arith}
+use Rattle.std.proofs.lemmas.List.{append_assoc, append-nil}
 use Rattle.banks.specs.Codes.{coded}
 use Rattle.banks.proofs.Lawful.{coded_lawful}
 use Rattle.order.specs.Laws.{Choice, IsLawfulChoice}
 use Rattle.terms.specs.declared.handlers.Handler.{Handler}
-use Rattle.terms.specs.declared.refusals.Refusal.{Refusal}
 use Rattle.terms.specs.declared.refusals.Refusal.TheVariants.{NoPeriod, NoSuchHandler, Circle, UnfitTables}
-use Rattle.plan.specs.Contents.{Contents, Sound, count, at, Known, empty}
-use Rattle.plan.specs.Joins.{Chain, one, more}
+use Rattle.plan.specs.Contents.{Contents, Sound, count, empty}
 use Rattle.plan.specs.Calls.{added, Takes, Registers, with_join, ClosesCircle, Joins, Reseats}
 use Rattle.plan.specs.Calls.{reseated as with_core}
 use Rattle.plan.specs.Histories.{registered, joined, reseated}
 use Rattle.model.specs.declared.verdicts.Rows.TheVariants.{Working, Marks}
-use Rattle.model.specs.declared.verdicts.Verdict.{Verdict}
 use Rattle.model.specs.declared.verdicts.Verdict.TheVariants.{Kept, Missed, RowsShort}
 use Rattle.samples.specs.Samples.{all_fixed}
-use Rattle.samples.proofs.Evaluate.{asked, verdict_by}
-use Rattle.samples.proofs.Outcomes.{computed_verdict}
-use Rattle.samples.proofs.Unit.{asked_answers}
-use Rattle.laws.specs.Checks.{Tables, Unfit, most_rows, Checks}
+use Rattle.samples.proofs.Sound.{chain_onward}
+use Rattle.laws.specs.Checks.{Tables, Checks}
 use Rattle.laws.specs.Histories.{Event, changes, checks, Makes, After, new, then, History}
 use Rattle.laws.specs.Laws.{EachKind, SomeHistoryHasEachKind}
-use Rattle.laws.proofs.Answering.{tables, check_finds, check_refused}
+use Rattle.laws.proofs.Answering.{tables, check_refused}
+use Rattle.laws.proofs.Computing.{lent, found}
 use Rattle.laws.proofs.Sounds.{makes_sound, after_sound}
-use Rattle.laws.proofs.MarkRows.{row_of}
 
 -- ---- calls that lead on
 
@@ -103,16 +96,12 @@ both a b (inr n) = n b
 refuses_circle : Joins single 1 1 (Err Circle) single
 refuses_circle = record { answers = inr (both (omega arith, omega arith) (omega arith, omega arith), inr (both refl refl, inl (inl refl, refl))); leaves = refl }
 
-no_chain : {a b : ℕ} → Chain empty.joined a b → ⊥
-no_chain (one j) = true≢false (sym j)
-no_chain (more j c) = no_chain c
-
 joins_pair : Joins pair 1 2 (Ok tt) linked
 joins_pair = record { answers = inr (both (omega arith, omega arith) (omega arith, omega arith), inr (both refl refl, inr (straight, refl))); leaves = refl }
   where
     straight : ClosesCircle pair 1 2 → ⊥
     straight (inl e) = omega (arith, e)
-    straight (inr c) = no_chain c
+    straight (inr c) = omega (arith, chain_onward pair (λ a b j. absurd (true≢false (sym j))) c)
 
 refuses_absent : Reseats single 2 2 (Err NoSuchHandler) single
 refuses_absent = record { answers = inl (λ q. omega (arith, q.1), refl); leaves = refl }
@@ -122,48 +111,30 @@ reseats_long = record { answers = inr (λ n. n (omega arith, omega arith), inr (
 
 -- ---- checks
 
--- working tables of so many rows, and a mark table
-abbrev lent : ℕ → ℕ → Tables
-lent w m = tables w w m
+empty_sound : Sound empty
+empty_sound = after_sound [] empty new
 
 -- working tables of different lengths
 abbrev uneven : Tables
 uneven = tables 1 0 1
 
 refused : Checks empty D uneven (Err UnfitTables) uneven
-refused = check_refused empty (after_sound [] empty new) D uneven (inl (λ e. omega (arith, e)))
-
--- a check whose verdict is computed
-module _ (k : Contents) (ok : Sound k) (w m : ℕ) (fits_w : w ≤ most_rows) (fits_m : m ≤ most_rows) (v : Verdict) (computed : verdict_by k (asked k all_fixed) w m 20 0 ≡ Some v) where
-  fits : ¬ Unfit (lent w m)
-  fits (inl n) = n refl
-  fits (inr (inl l)) = omega (arith, l, fits_w, length-replicate w (row_of []))
-  fits (inr (inr (inl l))) = omega (arith, l, fits_w, length-replicate w (row_of []))
-  fits (inr (inr (inr l))) = omega (arith, l, fits_m, length-replicate m (row_of []))
-
-  found : (is : Tables) × Checks k D (lent w m) (Ok v) is
-  found =
-      check_finds k ok D (lent w m) fits v
-      (rw (length-replicate w (row_of []), length-replicate m (row_of []))
-      (computed_verdict k D ok (asked k all_fixed) (asked_answers k all_fixed ok) w m 20 v computed))
-
-empty_sound : Sound empty
-empty_sound = after_sound [] empty new
+refused = check_refused empty empty_sound D uneven (inl (λ e. omega (arith, e)))
 
 single_sound : Sound single
 single_sound = makes_sound empty single (changes (registered long (Ok 1))) (registers empty long takes_long) empty_sound
 
 few_rows : (is : Tables) × Checks empty D (lent 0 1) (Ok (RowsShort Working 0)) is
-few_rows = found empty empty_sound 0 1 (omega arith) (omega arith) (RowsShort Working 0) refl
+few_rows = found empty empty_sound all_fixed 0 1 (omega arith) (omega arith) (RowsShort Working 0) refl
 
 few_marks : (is : Tables) × Checks empty D (lent 1 0) (Ok (RowsShort Marks 0)) is
-few_marks = found empty empty_sound 1 0 (omega arith) (omega arith) (RowsShort Marks 0) refl
+few_marks = found empty empty_sound all_fixed 1 0 (omega arith) (omega arith) (RowsShort Marks 0) refl
 
 kept : (is : Tables) × Checks empty D (lent 1 1) (Ok (Kept 1 1)) is
-kept = found empty empty_sound 1 1 (omega arith) (omega arith) (Kept 1 1) refl
+kept = found empty empty_sound all_fixed 1 1 (omega arith) (omega arith) (Kept 1 1) refl
 
 missed : (is : Tables) × Checks single D (lent 3 1) (Ok (Missed 2 1)) is
-missed = found single single_sound 3 1 (omega arith) (omega arith) (Missed 2 1) refl
+missed = found single single_sound all_fixed 3 1 (omega arith) (omega arith) (Missed 2 1) refl
 
 -- ---- the history
 

@@ -1,6 +1,7 @@
 pub mod Alikeness
 pub mod Answering
 pub mod Circles
+pub mod Computing
 pub mod Example
 pub mod Keeping
 pub mod LastCores

@@ -1,17 +1,16 @@
 -- Rows for the marks of a kept verdict: there is a row for each state, and as many rows as are needed.
-use Rattle.std.proofs.Common.{◌≡◌, ℕ, zero, suc, ◌+◌, ◌-◌, ◌<◌, ◌≤◌, List, [], ◌∷◌, ◌++◌, map, length, get_or, take, drop, replicate, sym, refl, ap, ◌∙◌, subst, arith}
+use Rattle.std.proofs.Common.{◌≡◌, ℕ, zero, suc, ◌+◌, ◌-◌, ◌<◌, ◌≤◌, List, [], ◌++◌, map, length, get_or, take, drop, replicate, sym, refl, ap, ◌∙◌, subst, arith}
 use native.Mathlib.Decide.{dec_le}
 use Rattle.std.specs.List.{Contains as Has}
-use Rattle.std.proofs.lemmas.List.{length-append, length-drop, length-map, length-replicate, length-take-le, take-append-le, drop-append-le, take_all, drop_all, drop-take, take-replicate, get_or-map}
-use Rattle.std.proofs.Math.Seq.{take-take, take-append_seam, drop-append_seam}
+use Rattle.std.proofs.lemmas.List.{length-append, length-drop, length-map, length-replicate, length-take-le, take-append-le, drop-append-le, take_all, take-take, drop_all, drop-take, take-replicate, get_or-map}
+use Rattle.std.proofs.Math.Seq.{take-append_seam, drop-append_seam}
 use Rattle.std.proofs.lemmas.List.Elements.{Contains-get_or}
 use Rattle.gather.specs.Levels.{Once}
 use Rattle.order.specs.Laws.{Choice}
 use Rattle.plan.specs.Contents.{Contents, Sound, count}
 use Rattle.model.specs.declared.verdicts.Verdict.TheVariants.{Kept}
-use Rattle.model.specs.Units.{zeros}
-use Rattle.model.specs.Runs.{Run, StateAt, mark, Marked}
-use Rattle.model.specs.Verdicts.{Outnumber, Number, VerdictIs}
+use Rattle.model.specs.Runs.{StateAt, mark, Marked}
+use Rattle.model.specs.Verdicts.{Number, VerdictIs}
 use Rattle.model.proofs.Lists.{has_map, has_map_cases}
 use Rattle.model.proofs.Marks.{mark_before, round_some}
 use Rattle.step.specs.declared.states.State.{State}
