@@ -1,13 +1,12 @@
 -- Alike mixtures of calls leave the same plan, and then equal checks answer the same.
-use Rattle.std.proofs.Common.{◌≡◌, ℕ, suc, ◌+◌, ◌-◌, ◌<◌, Bool, true, false, ◌&&◌, ◌||◌, ◌↔◌, List, [], ◌∷◌, ◌++◌, map, length, get_or, Ok, Err, sym, refl, ap, ◌∙◌, subst, ap₂, inl, inr, true≢false, arith, ext_get_or}
+use Rattle.std.proofs.Common.{◌≡◌, ℕ, suc, ◌+◌, ◌<◌, Bool, true, false, ◌&&◌, ◌||◌, ◌↔◌, List, [], ◌∷◌, ◌++◌, map, length, get_or, Ok, Err, sym, refl, ap, ◌∙◌, subst, ap₂, inl, inr, true≢false, arith, ext_get_or}
 use mathlib.Core.Path.{fun_ext}
 use Rattle.std.specs.Prelude.{◌==◌}
 use Rattle.std.specs.Cmp.{both_ways}
 use Rattle.std.specs.List.{Contains as Has}
 use mathlib.Core.Bool.{or-false}
 use Rattle.std.proofs.lemmas.Bool.{eqb-true, eq-eqb, and_parts, and_from, or_cases, or_left, or_right}
-use Rattle.std.proofs.lemmas.List.{append_assoc, append-nil, length-map, map_push, get_or-map}
-use Rattle.std.proofs.Math.Seq.{map-set_same}
+use Rattle.std.proofs.lemmas.List.{length-map, get_or-map}
 use Rattle.std.proofs.lemmas.List.Elements.{Contains-append_left, Contains-push, Contains-push_cases}
 use Rattle.plan.specs.Rows.{blank}
 use Rattle.plan.specs.Contents.{Contents, count, at}
@@ -15,44 +14,12 @@ use Rattle.plan.specs.Calls.{seated}
 use Rattle.plan.specs.Histories.{registered, joined, reseated}
 use Rattle.model.proofs.Lists.{has_none}
 use Rattle.laws.specs.Checks.{Checks}
-use Rattle.laws.specs.Histories.{Event, changes, checks, Makes, After, new, then, History, registers, taken, but_core, JoinTaken, Alike}
+use Rattle.laws.specs.Histories.{Event, changes, checks, Makes, After, new, then, History, but_core, JoinTaken, Alike}
 use Rattle.laws.specs.Laws.{AlikeChecksAnswerAlike}
 use Rattle.laws.proofs.Sounds.{after_sound}
 use Rattle.laws.proofs.Rechecks.{checks_one}
-use Rattle.laws.proofs.LastCores.{last_core_one, cores_last}
-
--- ---- the handlers, but for their cores
-
-taken_push : (events : List Event) (event : Event) → taken (events ++ event ∷ []) ≡ taken events ++ registers event
-taken_push [] event = append-nil (registers event)
-taken_push (e ∷ events) event = ap (λ hs. registers e ++ hs) (taken_push events event) ∙ sym (append_assoc (registers e) (taken events) (registers event))
-
--- the plan's handlers are those taken, but for their cores
-abbrev AreTaken : List Event → Contents → Type 0
-AreTaken events k = map but_core k.handlers ≡ map but_core (taken events)
-
--- a call that changes no more than cores, and registers nobody
-rows_stay : (events : List Event) (event : Event) (k next : Contents) → AreTaken events k → registers event ≡ []
-    → map but_core next.handlers ≡ map but_core k.handlers → AreTaken (events ++ event ∷ []) next
-rows_stay events event k next are none same =
-    same ∙ are ∙ ap (map but_core) (sym (taken_push events event ∙ ap (λ hs. taken events ++ hs) none ∙ append-nil (taken events)))
-
-rows_made : (events : List Event) (event : Event) (k next : Contents) → AreTaken events k → Makes k event next → AreTaken (events ++ event ∷ []) next
-rows_made events (changes (registered h (Ok n))) k next are m =
-    ap (λ (x : Contents). map but_core x.handlers) m.leaves ∙ map_push but_core k.handlers h ∙ ap (λ hs. hs ++ but_core h ∷ []) are
-    ∙ sym (map_push but_core (taken events) h) ∙ ap (map but_core) (sym (taken_push events (changes (registered h (Ok n)))))
-rows_made events (changes (registered h (Err e))) k next are m = rows_stay events (changes (registered h (Err e))) k next are refl (ap (λ (x : Contents). map but_core x.handlers) m.leaves)
-rows_made events (changes (joined a b (Ok u))) k next are m = rows_stay events (changes (joined a b (Ok u))) k next are refl (ap (λ (x : Contents). map but_core x.handlers) m.leaves)
-rows_made events (changes (joined a b (Err e))) k next are m = rows_stay events (changes (joined a b (Err e))) k next are refl (ap (λ (x : Contents). map but_core x.handlers) m.leaves)
-rows_made events (changes (reseated n c (Ok u))) k next are m =
-    rows_stay events (changes (reseated n c (Ok u))) k next are refl
-    (ap (λ (x : Contents). map but_core x.handlers) m.leaves ∙ map-set_same but_core k.handlers (n - 1) (seated (at k (n - 1)) c) blank refl)
-rows_made events (changes (reseated n c (Err e))) k next are m = rows_stay events (changes (reseated n c (Err e))) k next are refl (ap (λ (x : Contents). map but_core x.handlers) m.leaves)
-rows_made events (checks D was r is) k next are m = rows_stay events (checks D was r is) k next are refl (ap (λ (x : Contents). map but_core x.handlers) m.2)
-
-rows_taken : (events : List Event) (k : Contents) → After events k → AreTaken events k
-rows_taken _ _ new = refl
-rows_taken _ _ (then {events} {k} {next} event before made) = rows_made events event k next (rows_taken events k before) made
+use Rattle.laws.proofs.LastCores.{last_core_one}
+use Rattle.laws.proofs.HandlersHeld.{handlers_held}
 
 -- ---- the joins
 
@@ -103,7 +70,7 @@ joins_taken _ _ (then {events} {k} {next} event before made) = λ x y. (
 
 module _ (h g : History) (alike : Alike h.events g.events) where
   rows_same : map but_core h.left.handlers ≡ map but_core g.left.handlers
-  rows_same = rows_taken h.events h.left h.after ∙ alike.registers ∙ sym (rows_taken g.events g.left g.after)
+  rows_same = (handlers_held h.events h.left h.after).rows ∙ alike.registers ∙ sym (handlers_held g.events g.left g.after).rows
 
   counts_same : count h.left ≡ count g.left
   counts_same = sym (length-map h.left.handlers but_core) ∙ ap length rows_same ∙ length-map g.left.handlers but_core
@@ -111,13 +78,19 @@ module _ (h g : History) (alike : Alike h.events g.events) where
   cores_same : (i : ℕ) → i < count h.left → (at h.left i).core ≡ (at g.left i).core
   cores_same i l =
       last_core_one g.events (i + 1) (at h.left i).core (at g.left i).core
-      ((alike.cores (i + 1) (at h.left i).core).0 (cores_last h.events h.left h.after i l))
-      (cores_last g.events g.left g.after i (omega (arith, l, counts_same)))
+      ((alike.cores (i + 1) (at h.left i).core).0 ((handlers_held h.events h.left h.after).cores i l))
+      ((handlers_held g.events g.left g.after).cores i (omega (arith, l, counts_same)))
+
+  -- rows that are equal but for their cores, with equal cores
+  row_same : (i : ℕ) → i < count h.left → at h.left i ≡ at g.left i
+  row_same i l =
+      let low : i < count g.left = omega (arith, l, counts_same) in
+      let but : but_core (at h.left i) ≡ but_core (at g.left i) =
+      sym (get_or-map but_core h.left.handlers i blank blank l) ∙ ap (λ hs. get_or hs i blank) rows_same ∙ get_or-map but_core g.left.handlers i blank blank low in
+      ap₂ seated but (cores_same i l)
 
   handlers_same : h.left.handlers ≡ g.left.handlers
-  handlers_same = ext_get_or blank h.left.handlers g.left.handlers counts_same (λ i l.
-      let rows : but_core (at h.left i) ≡ but_core (at g.left i) = sym (get_or-map but_core h.left.handlers i blank blank l) ∙ ap (λ hs. get_or hs i blank) rows_same ∙ get_or-map but_core g.left.handlers i blank blank (omega (arith, l, counts_same)) in
-      ap₂ seated rows (cores_same i l))
+  handlers_same = ext_get_or blank h.left.handlers g.left.handlers counts_same row_same
 
   joined_same : h.left.joined ≡ g.left.joined
   joined_same = fun_ext (λ x. fun_ext (λ y.

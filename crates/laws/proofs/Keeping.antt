@@ -13,7 +13,7 @@ use Rattle.plan.proofs.Rounds.{folded_set}
 
 -- ---- chains over a table of joins that has one join more
 
-module _ (old new : ℕ → ℕ → Bool) (i j : ℕ) (only : (x y : ℕ) → new x y ≡ true → (old x y ≡ true) ⊎ ((x ≡ i) × (y ≡ j))) where
+module _ (old : ℕ → ℕ → Bool) where
   leads_step : (x z y : ℕ) → old x z ≡ true → Leads old z y → Leads old x y
   leads_step x z y h (inl e) = inr (one (subst (λ a. old x a ≡ true) e h))
   leads_step x z y h (inr p) = inr (more h p)
@@ -26,24 +26,25 @@ module _ (old new : ℕ → ℕ → Bool) (i j : ℕ) (only : (x y : ℕ) → ne
   leads_on x y z (inl e) q = subst (λ a. Leads old a z) (sym e) q
   leads_on x y z (inr p) q = leads_join p q
 
-  -- a chain over the new table goes over the old one, or comes by the new join
-  chain_cases : {x y : ℕ} → Chain new x y → Chain old x y ⊎ (Leads old x i × Leads old j y)
-  chain_cases (one {a} {b} h) =
-      elim (only a b h) [ inl k ↦ inl (one k) | inr q ↦ inr (inl q.0, inl (sym q.1)) ]
-  chain_cases (more {a} {b} {c} h p) =
-      elim (only a b h) [
-        | inl k ↦ (elim (chain_cases p) [ inl m ↦ inl (more k m) | inr m ↦ inr (leads_step a b i k m.0, m.1) ])
-        | inr q ↦
-            (elim (chain_cases p) [
-              | inl m ↦ inr (inl q.0, inr (subst (λ b. Chain old b c) q.1 m))
-              | inr m ↦ inr (inl q.0, m.1)
-            ])
-      ]
+  module _ (new : ℕ → ℕ → Bool) (i j : ℕ) (only : (x y : ℕ) → new x y ≡ true → (old x y ≡ true) ⊎ ((x ≡ i) × (y ≡ j))) where
+    -- a chain over the new table goes over the old one, or comes by the new join
+    chain_cases : {x y : ℕ} → Chain new x y → Chain old x y ⊎ (Leads old x i × Leads old j y)
+    chain_cases (one {a} {b} h) =
+        elim (only a b h) [ inl k ↦ inl (one k) | inr q ↦ inr (inl q.0, inl (sym q.1)) ]
+    chain_cases (more {a} {b} {c} h p) =
+        elim (only a b h) [
+          | inl k ↦ (elim (chain_cases p) [ inl m ↦ inl (more k m) | inr m ↦ inr (leads_step a b i k m.0, m.1) ])
+          | inr q ↦
+              (elim (chain_cases p) [
+                | inl m ↦ inr (inl q.0, inr (subst (λ b. Chain old b c) q.1 m))
+                | inr m ↦ inr (inl q.0, m.1)
+              ])
+        ]
 
-  -- the new join closes no circle where nothing led back
-  still_straight : NoCircle old → ¬ Leads old j i → NoCircle new
-  still_straight straight apart x p =
-      elim (chain_cases p) [ inl k ↦ straight x k | inr q ↦ apart (leads_on j x i q.1 q.0) ]
+    -- the new join closes no circle where nothing led back
+    still_straight : NoCircle old → ¬ Leads old j i → NoCircle new
+    still_straight straight apart x p =
+        elim (chain_cases p) [ inl k ↦ straight x k | inr q ↦ apart (leads_on j x i q.1 q.0) ]
 
 -- ---- the three changes
 
@@ -53,7 +54,8 @@ module _ (k : Contents) (sound : Sound k) where
     old_row i l = get_or_append_left k.handlers (h ∷ []) blank i l
 
     -- a field that joined handlers have alike
-    still_alike : (f : Handler → ℕ) → ((a b : ℕ) → k.joined a b ≡ true → f (at k a) ≡ f (at k b)) → (a b : ℕ) → k.joined a b ≡ true → f (at (added k h) a) ≡ f (at (added k h) b)
+    still_alike : (f : Handler → ℕ) → ((a b : ℕ) → k.joined a b ≡ true → f (at k a) ≡ f (at k b))
+        → (a b : ℕ) → k.joined a b ≡ true → f (at (added k h) a) ≡ f (at (added k h) b)
     still_alike f all a b j = let q = sound.inside a b j in ap f (old_row a q.0) ∙ all a b j ∙ sym (ap f (old_row b q.1))
 
     in_range : (i : ℕ) → i < count (added k h) → IsInRange (at (added k h) i)

@@ -3,6 +3,7 @@ pub mod Answering
 pub mod Circles
 pub mod Computing
 pub mod Example
+pub mod HandlersHeld
 pub mod Keeping
 pub mod LastCores
 pub mod MarkRows

@@ -17,7 +17,7 @@ use Rattle.laws.proofs.Keeping.{added_sound, join_sound, seat_sound}
 -- ---- what is accepted was tested
 
 -- a call that answers Ok has passed the test, and the rest of the tests let it through
-passed : {A P Q : Type 0} {x : A} {why : Refusal} → (P × (Ok x ≡ Err why)) ⊎ ((P → ⊥) × Q) → (P → ⊥) × Q
+pub passed : {A P Q : Type 0} {x : A} {why : Refusal} → (P × (Ok x ≡ Err why)) ⊎ ((P → ⊥) × Q) → (P → ⊥) × Q
 passed (inl r) = absurd (true≢false (ap is_ok r.1))
 passed (inr r) = r
 
