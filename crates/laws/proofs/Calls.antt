@@ -1,14 +1,12 @@
 -- Each call of a history was made on what those before it left, and the n-th accepted register answered n.
-use Rattle.std.proofs.Common.{◌≡◌, ℕ, ◌+◌, ◌-◌, ◌⊎◌, List, [], ◌∷◌, ◌++◌, length, Ok, Err, sym, refl, ap, ◌∙◌, subst, inl, inr, arith}
-use Rattle.std.specs.Result.{result_unwrap_or}
-use Rattle.std.proofs.lemmas.List.{length_push, length-set, append_assoc, same_from_push, length-append}
-use Rattle.terms.specs.declared.handlers.Handler.{Handler}
-use Rattle.plan.specs.Contents.{Contents, count, at}
-use Rattle.plan.specs.Calls.{seated, Registers}
-use Rattle.plan.specs.Histories.{registered, joined, reseated}
-use Rattle.laws.specs.Histories.{Event, changes, checks, Makes, After, new, then, Among, History, registers, taken}
+use Rattle.std.proofs.Common.{◌≡◌, ◌⊎◌, List, [], ◌∷◌, ◌++◌, length, Ok, sym, refl, ap, ◌∙◌, subst, inl, inr, arith}
+use Rattle.std.proofs.lemmas.List.{append_assoc, same_from_push, length-append}
+use Rattle.plan.specs.Contents.{Contents}
+use Rattle.plan.specs.Histories.{registered}
+use Rattle.laws.specs.Histories.{Event, changes, Makes, After, new, then, Among, History}
 use Rattle.laws.specs.Laws.{CallsFit, RegistersCount}
-use Rattle.laws.proofs.Sounds.{passed, after_one}
+use Rattle.laws.proofs.Sounds.{after_one}
+use Rattle.laws.proofs.HandlersHeld.{register_number, taken_count}
 
 -- ---- the last of a list
 
@@ -62,32 +60,7 @@ among_made h k event a =
 
 -- ---- the numbers of registers
 
-taken_push : (events : List Event) (event : Event) → length (taken (events ++ event ∷ [])) ≡ length (taken events) + length (registers event)
-taken_push [] event = omega (arith, length-append (registers event) [])
-taken_push (x ∷ events) event =
-    omega (arith, taken_push events event, length-append (registers x) (taken events), length-append (registers x) (taken (events ++ event ∷ [])))
-
-count_after : (k next : Contents) (event : Event) → Makes k event next → count next ≡ count k + length (registers event)
-count_after k next (changes (registered h (Ok n))) m = ap count m.leaves ∙ length_push k.handlers h
-count_after k next (changes (registered h (Err e))) m = omega (arith, ap count m.leaves)
-count_after k next (changes (joined a b (Ok u))) m = omega (arith, ap count m.leaves)
-count_after k next (changes (joined a b (Err e))) m = omega (arith, ap count m.leaves)
-count_after k next (changes (reseated n c (Ok u))) m = let e = ap count m.leaves in omega (arith, e, length-set k.handlers (n - 1) (seated (at k (n - 1)) c))
-count_after k next (changes (reseated n c (Err e))) m = omega (arith, ap count m.leaves)
-count_after k next (checks D was r is) m = omega (arith, ap count m.2)
-
-taken_count : (events : List Event) (k : Contents) → After events k → length (taken events) ≡ count k
-taken_count _ _ new = refl
-taken_count _ _ (then {events} {k} {next} event before made) =
-    omega (arith, taken_push events event, taken_count events k before, count_after k next event made)
-
-number_is : (k next : Contents) (h : Handler) (n : ℕ) → Registers k h (Ok n) next → n ≡ count k + 1
-number_is k next h n m =
-    let fields = (passed m.answers).1 in
-    let seats = (passed (passed (passed fields).1).1).1 in
-    ap (λ r. result_unwrap_or r 0) (passed seats).1
-
 pub registers_count : RegistersCount
 registers_count h before rest x n e =
     let m = made_after h.events h.left h.after before rest (changes (registered x (Ok n))) e in
-    omega (arith, number_is m.0 m.1 x n m.3, taken_count before m.0 m.2)
+    omega (arith, register_number m.0 m.1 x n m.3, taken_count before m.0 m.2)

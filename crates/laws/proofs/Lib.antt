@@ -1,6 +1,14 @@
+pub mod Alikeness
+pub mod Answering
 pub mod Calls
+pub mod Circles
+pub mod Computing
+pub mod Example
 pub mod Findings
+pub mod HandlersHeld
 pub mod Keeping
+pub mod LastCores
+pub mod MarkRows
 pub mod Questions
 pub mod Rechecks
 pub mod Short

@@ -1,12 +1,12 @@
 -- Mixtures of calls on one plan, checks among them: what they ask, what they answer, and when two are alike.
-use Rattle.std.specs.Prelude.{◌≡◌, ℕ, ◌+◌, ◌↔◌, List, [], ◌∷◌, ◌++◌, map, length, Ok, Err, Result}
+use Rattle.std.specs.Prelude.{◌≡◌, ℕ, ◌↔◌, List, [], ◌∷◌, ◌++◌, map, length, Ok, Err, Result}
 use Rattle.std.specs.List.{Contains as Has}
 use Rattle.order.specs.Laws.{Choice, IsLawfulChoice}
 use Rattle.terms.specs.declared.handlers.Handler.{Handler}
 use Rattle.terms.specs.declared.refusals.Refusal.{Refusal}
 use Rattle.plan.specs.Contents.{Contents, empty}
 use Rattle.plan.specs.Calls.{seated}
-use Rattle.plan.specs.Histories.{Call, registered, joined, reseated, registers_one}
+use Rattle.plan.specs.Histories.{Call, registered, joined, reseated}
 use Rattle.plan.specs.Histories.{Makes as Changes}
 use Rattle.model.specs.declared.verdicts.Verdict.{Verdict}
 use Rattle.laws.specs.Checks.{Tables, Checks}

@@ -1,5 +1,5 @@
 -- What is promised of checks, and of every call, in any mixture of calls on a plan.
-use Rattle.std.specs.Prelude.{◌≡◌, ℕ, ◌+◌, ◌*◌, ◌<◌, ◌≤◌, ◌⊎◌, ◌↔◌, List, [], ◌∷◌, ◌++◌, map, length, take, Ok, Err, Result}
+use Rattle.std.specs.Prelude.{◌≡◌, ℕ, ◌+◌, ◌*◌, ◌<◌, ◌≤◌, ◌⊎◌, ◌↔◌, List, ◌∷◌, ◌++◌, map, length, take, Ok, Err, Result}
 use Rattle.std.specs.List.{Contains as Has}
 use Rattle.gather.specs.Levels.{Once}
 use Rattle.order.specs.Laws.{Choice}
@@ -115,8 +115,8 @@ AlikeChecksAnswerAlike =
     (h g : History) → Alike h.events g.events
     → (h.left ≡ g.left)
     × ((D : Choice) (was is other left : Tables) (r s : Result Verdict Refusal)
-      → Checks h.left D was r is → Checks g.left D other s left
-      → length was.front ≡ length other.front → length was.back ≡ length other.back → length was.marks ≡ length other.marks → r ≡ s)
+    → Checks h.left D was r is → Checks g.left D other s left
+    → length was.front ≡ length other.front → length was.back ≡ length other.back → length was.marks ≡ length other.marks → r ≡ s)
 
 -- ---- none of this is empty
 
