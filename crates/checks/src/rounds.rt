@@ -1,5 +1,5 @@
 // From time to time, and from mark to mark, with the states of each time in a table.
-ghost use Rattle.std.specs.Prelude.{◌≡◌, ℕ, ◌≤◌, true, MatchResult};
+ghost use Rattle.std.specs.Prelude.{◌≡◌, ℕ, ◌<◌, ◌≤◌, true, MatchResult};
 ghost use Rattle.plan.specs.Contents.{contents, settling};
 ghost use Rattle.model.specs.declared.verdicts.Verdict.TheVariants.{RowsShort};
 ghost use Rattle.model.specs.Verdicts.{VerdictIs};
@@ -62,7 +62,7 @@ impl<'p, 'd, D: Discipline, W: Table<Item = State> + Drop> Rounds<'p, 'd, D, W> 
 
     // The states at the settling time.
     fn settled(plan: &'p Plan, d: &'d D, front: W, back: W) -> Result<Self, Verdict>
-        ensures { (w : ℕ) → W.room front ≡ w → W.room back ≡ w → MatchResult result (λ s. (s.plan.now ≡ plan.now) × (s.d.now ≡ d.now) × (s.time ≡ settling (contents plan.now)) × Stands D.first W.members W.room w s) (Stopped (contents plan.now) (D.first d.now) w 0 (settling (contents plan.now))) }
+        ensures { (w : ℕ) → W.room front ≡ w → W.room back ≡ w → MatchResult result (λ s. (s.plan.now ≡ plan.now) × (s.d.now ≡ d.now) × (s.time ≡ settling (contents plan.now)) × (s.time < 65536) × Stands D.first W.members W.room w s) (Stopped (contents plan.now) (D.first d.now) w 0 (settling (contents plan.now))) }
     {
         let mut rounds = Rounds {
             plan,
@@ -106,7 +106,7 @@ pub(crate) fn judge<D: Discipline, W: Table<Item = State> + Drop, M: Table<Item 
 ) -> Verdict
     ensures verdict { W.room front ≡ W.room back → M.room marks.old ≤ most_rows → VerdictIs (contents plan.now) (D.first d.now) (W.room front) (M.room marks.old) result }
     ensures marks { W.room front ≡ W.room back → M.room marks.old ≤ most_rows → KeptRows (contents plan.now) (D.first d.now) result (M.members marks.new) }
-    ensures frame { is_kept result ≡ true → (s : M) × M.emptied marks.old s × M.extended s marks.new }
+    ensures frame { W.room front ≡ W.room back → M.room marks.old ≤ most_rows → is_kept result ≡ true → (s : M) × M.emptied marks.old s × M.extended s marks.new }
 {
     let mut rounds = match Rounds::settled(plan, d, front, back) {
         Ok(rounds) => rounds,
