@@ -1,18 +1,17 @@
 -- The rows of marks: those of the mark times so far, and what they say of the tests at a mark time.
-use Rattle.std.proofs.Common.{◌≡◌, ℕ, suc, ◌+◌, ◌-◌, ◌*◌, ◌<◌, ◌≤◌, ◌⊎◌, List, [], ◌∷◌, ◌++◌, map, length, refl, sym, ap, ◌∙◌, subst, inl, inr, arith}
+use Rattle.std.proofs.Common.{◌≡◌, ℕ, ◌+◌, ◌<◌, ◌≤◌, List, [], ◌++◌, map, length, sym, ap, ◌∙◌, subst, inl, inr, arith}
 use native.Mathlib.Decide.{ℕ_discrete, dec_lt}
 use Rattle.std.specs.List.{Contains as Has}
 use Rattle.std.proofs.lemmas.List.{length-map}
 use Rattle.std.proofs.lemmas.List.Elements.{Contains-append_left, Contains-append_right, Contains-append_cases}
 use Rattle.gather.specs.Levels.{Once, Collects, Fresh}
-use Rattle.gather.proofs.Counting.{once_fits, has_cases}
+use Rattle.gather.proofs.Counting.{once_fits}
 use Rattle.order.specs.Laws.{Choice}
-use Rattle.plan.specs.Contents.{Contents, Sound, round}
+use Rattle.plan.specs.Contents.{Contents}
 use Rattle.model.specs.Runs.{StateAt, mark, Marked}
 use Rattle.model.specs.Verdicts.{Outnumber, Number, Closes, Passes}
-use Rattle.model.proofs.Lists.{has_map, has_map_cases, once_cons}
+use Rattle.model.proofs.Lists.{has_map, has_map_cases}
 use Rattle.model.proofs.Marks.{mark_before}
-use Rattle.model.proofs.Extend.{some_run}
 use Rattle.step.specs.declared.states.State.{State}
 use Rattle.step.specs.Memory.{times}
 use Rattle.fronts.specs.Fronts.{Holds, Front}
@@ -56,10 +55,13 @@ module _ (p : Contents) (D : Choice) where
 
     -- where every row stood there before, no mark is new
     pub closes : 1 ≤ n → ((x : State) → Has rows x → Has seen x) → Closes p D n
-    closes some old = (some, λ v a. (
-        let r = f.each v a in
-        let o = m.only r.0 (old r.0 r.1) in
-        (o.0, omega (arith, o.1), subst (StateAt p D (mark p o.0)) (one_state r.0 o.2 v o.4 r.2) o.3)))
+    closes some old = (
+      some,
+      λ v a. (
+          let r = f.each v a in
+          let o = m.only r.0 (old r.0 r.1) in
+          (o.0, omega (arith, o.1), subst (StateAt p D (mark p o.0)) (one_state r.0 o.2 v o.4 r.2) o.3)),
+    )
 
   -- the rows in a table hold each mark so far
   module _ (n : ℕ) (seen all : List State) (m : MarkRows p D n seen) (k : ℕ) (is : n ≡ k + 1) where

@@ -1,5 +1,5 @@
 -- The states at time 0.
-use Rattle.std.proofs.Common.{◌≡◌, ℕ, ◌+◌, ◌<◌, ◌≤◌, List, length, refl, arith}
+use Rattle.std.proofs.Common.{◌≡◌, ℕ, ◌<◌, ◌≤◌, List, length, refl, arith}
 use Rattle.order.specs.Laws.{Choice}
 use Rattle.plan.specs.Contents.{Contents, contents, Sound}
 use Rattle.model.specs.declared.verdicts.Rows.TheVariants.{Working}

@@ -1,7 +1,8 @@
 -- Walking on from time to time with the states of each time in a table, until a verdict comes.
 use Rattle.std.specs.Prelude.{◌≡◌, ℕ, ◌+◌, ◌-◌, ◌<◌, ◌≤◌, List, length, Result, MatchResult}
 use Rattle.order.specs.Laws.{Choice}
-use Rattle.plan.specs.Contents.{Contents, contents, round}
+use Rattle.plan.specs.declared.plans.Plan.{Plan}
+use Rattle.plan.specs.Contents.{Contents, contents, round, settling}
 use Rattle.model.specs.declared.verdicts.Rows.TheVariants.{Working, Marks}
 use Rattle.model.specs.declared.verdicts.Verdict.{Verdict}
 use Rattle.model.specs.declared.verdicts.Verdict.TheVariants.{Kept, Missed, RowsShort}
@@ -49,6 +50,14 @@ module _ {D W : Type 0} (first : D → Choice) (members : W → List State) (roo
     pub front_room : room s.front ≡ w
     pub back_room : room s.back ≡ w
     pub reached : Reached (contents s.plan.now) (first s.d.now) w s.time (members s.front)
+
+  -- they are of this plan under this discipline, and stand at its settling time
+  pub record Begun (w : ℕ) (plan : Plan) (d : D) (s : Rounds D W) : Type 0 where
+    pub of_plan : s.plan.now ≡ plan
+    pub under : s.d.now ≡ d
+    pub clock : s.time ≡ settling (contents plan)
+    pub low : s.time < 65536
+    pub stands : Stands w s
 
   -- they stand there so many units after s
   pub record Later (units w : ℕ) (s u : Rounds D W) : Type 0 where

@@ -1,5 +1,9 @@
-// Checks: what is true of every run of a plan.
+// Checks: what is true of every run of a plan, found by following the states of one time to those of the next.
 #![tactic(auto)]
+
+ghost use Rattle.plan.specs.Contents.{contents};
+ghost use Rattle.laws.specs.Checks.{tables, Checks};
+ghost use Rattle.laws.specs.Laws.{ChecksCanBeTrusted};
 
 mod rounds;
 
@@ -14,22 +18,26 @@ use terms::refusals::Refusal;
 // The most rows that a table may have.
 const MOST_ROWS: usize = 65_535;
 
-/// What is true of every run of the plan under the discipline.
+/// What is true of every run of the plan under the discipline: the verdict, for the rows of the tables lent. `front` and
+/// `back` each hold the states of one time, and `marks` those at mark times; a row holds a state where its first places
+/// are the times left of the plan's handlers and the others 0. Whatever the rows hold before, the answer is the same.
+///
+/// After `Kept` the first rows of `marks` hold each mark once, in no order that is promised, and the others are what they
+/// were. After another verdict `marks` is left free, and after any verdict `front` and `back` are. A check is refused
+/// where `front` and `back` differ in length, or a table has more than 65,535 rows; then every row is what it was.
 pub fn check<D: Discipline>(
     plan: &Plan,
     d: &D,
     front: &mut [State],
     back: &mut [State],
     marks: &mut [State],
-) -> Result<Verdict, Refusal> {
+) -> Result<Verdict, Refusal>
+    ensures checks { Checks (contents plan.now) (D.first d.now) (tables front.old back.old marks.old) result (tables front.new back.new marks.new) }
+    ensures trusted { ChecksCanBeTrusted }
+{
     if front.len() != back.len() || front.len() > MOST_ROWS || marks.len() > MOST_ROWS {
         return Err(Refusal::UnfitTables);
     }
-    Ok(judge(
-        plan,
-        d,
-        Lent::new(front),
-        Lent::new(back),
-        &mut Lent::new(marks),
-    ))
+    let (front, back) = (Lent::new(front), Lent::new(back));
+    Ok(judge(plan, d, front, back, &mut Lent::new(marks)))
 }

@@ -1,11 +1,11 @@
 // From time to time, and from mark to mark, with the states of each time in a table.
-ghost use Rattle.std.specs.Prelude.{◌≡◌, ℕ, ◌<◌, ◌≤◌, true, MatchResult};
+ghost use Rattle.std.specs.Prelude.{◌≡◌, ℕ, ◌≤◌, true, MatchResult};
 ghost use Rattle.plan.specs.Contents.{contents, settling};
 ghost use Rattle.model.specs.declared.verdicts.Verdict.TheVariants.{RowsShort};
 ghost use Rattle.model.specs.Verdicts.{VerdictIs};
 ghost use Rattle.model.specs.Telling.{is_kept};
 ghost use Rattle.laws.specs.Checks.{most_rows};
-ghost use Rattle.checks.specs.Walks.{Stopped, Stands, SamePlan, Walks, Rounded, Ended, KeptRows};
+ghost use Rattle.checks.specs.Walks.{Stopped, Begun, SamePlan, Walks, Rounded, Ended, KeptRows};
 
 use fronts::{advance, begin, first_late};
 use gather::tables::Table;
@@ -39,8 +39,10 @@ impl<'p, 'd, D: Discipline, W: Table<Item = State> + Drop> Rounds<'p, 'd, D, W> 
         ensures walks { Walks D.first W.members W.room 1 self.old self.new result }
     {
         let next = self.time.saturating_add(1);
-        advance(self.plan, self.d, self.time, &self.front, &mut self.back)
-            .map_err(|_| short(Rows::Working, next))?;
+        advance(self.plan, self.d, self.time, &self.front, &mut self.back).map_err(|_| short(
+            Rows::Working,
+            next,
+        ))?;
         mem::swap(&mut self.front, &mut self.back);
         self.time = next;
         match first_late(self.plan, next, &self.front) {
@@ -62,7 +64,7 @@ impl<'p, 'd, D: Discipline, W: Table<Item = State> + Drop> Rounds<'p, 'd, D, W> 
 
     // The states at the settling time.
     fn settled(plan: &'p Plan, d: &'d D, front: W, back: W) -> Result<Self, Verdict>
-        ensures { (w : ℕ) → W.room front ≡ w → W.room back ≡ w → MatchResult result (λ s. (s.plan.now ≡ plan.now) × (s.d.now ≡ d.now) × (s.time ≡ settling (contents plan.now)) × (s.time < 65536) × Stands D.first W.members W.room w s) (Stopped (contents plan.now) (D.first d.now) w 0 (settling (contents plan.now))) }
+        ensures { (w : ℕ) → W.room front ≡ w → W.room back ≡ w → MatchResult result (Begun D.first W.members W.room w plan.now d.now) (Stopped (contents plan.now) (D.first d.now) w 0 (settling (contents plan.now))) }
     {
         let mut rounds = Rounds {
             plan,

@@ -13,3 +13,4 @@ pub mod Questions
 pub mod Rechecks
 pub mod Short
 pub mod Sounds
+pub mod Trusted

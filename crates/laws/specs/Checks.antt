@@ -20,6 +20,9 @@ pub record Tables : Type 0 where
   pub back : List State
   pub marks : List State
 
+abbrev pub tables : List State → List State → List State → Tables
+tables front back marks = record { front = front; back = back; marks = marks }
+
 -- the most rows that a table may have
 abbrev pub most_rows : ℕ
 most_rows = 65535
