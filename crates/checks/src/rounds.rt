@@ -39,10 +39,8 @@ impl<'p, 'd, D: Discipline, W: Table<Item = State> + Drop> Rounds<'p, 'd, D, W> 
         ensures walks { Walks D.first W.members W.room 1 self.old self.new result }
     {
         let next = self.time.saturating_add(1);
-        advance(self.plan, self.d, self.time, &self.front, &mut self.back).map_err(|_| short(
-            Rows::Working,
-            next,
-        ))?;
+        let filled = advance(self.plan, self.d, self.time, &self.front, &mut self.back);
+        filled.map_err(|_| short(Rows::Working, next))?;
         mem::swap(&mut self.front, &mut self.back);
         self.time = next;
         match first_late(self.plan, next, &self.front) {
