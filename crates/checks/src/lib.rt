@@ -22,9 +22,9 @@ const MOST_ROWS: usize = 65_535;
 /// `back` each hold the states of one time, and `marks` those at mark times; a row holds a state where its first places
 /// are the times left of the plan's handlers and the others 0. Whatever the rows hold before, the answer is the same.
 ///
-/// After `Kept` the first rows of `marks` hold each mark once, in no order that is promised, and the others are what they
-/// were. After another verdict `marks` is left free, and after any verdict `front` and `back` are. A check is refused
-/// where `front` and `back` differ in length, or a table has more than 65,535 rows; then every row is what it was.
+/// After `Kept` the marks stand at the front of `marks`, one row each, in whatever order, and no row behind them has been
+/// written. All else is left free: `front` and `back` once there is a verdict, and `marks` after another one. A check is
+/// refused where one of `front` and `back` is longer, or a table has more than 65,535 rows; then every row is what it was.
 pub fn check<D: Discipline>(
     plan: &Plan,
     d: &D,

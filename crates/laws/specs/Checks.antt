@@ -27,7 +27,7 @@ tables front back marks = record { front = front; back = back; marks = marks }
 abbrev pub most_rows : ℕ
 most_rows = 65535
 
--- the working tables differ in length, or a table has too many rows
+-- one working table is longer than the other, or any of the three has too many rows
 abbrev pub Unfit : Tables → Type 0
 Unfit x = (length x.front ≢ length x.back) ⊎ ((most_rows < length x.front) ⊎ ((most_rows < length x.back) ⊎ (most_rows < length x.marks)))
 

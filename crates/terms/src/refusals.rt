@@ -23,7 +23,7 @@ pub enum Refusal {
     OtherTimes = 7,
     #[error("the join would close a circle")]
     Circle = 8,
-    #[error("the working tables differ in length, or a table has more than 65535 rows")]
+    #[error("one working table is longer than the other, or a table has more than 65535 rows")]
     UnfitTables = 9,
 }
 
