@@ -1,8 +1,10 @@
 // The plan of a sample, checked.
-ghost use Rattle.std.specs.Prelude.{◌≡◌, IfOk, MatchResult, length};
-ghost use Rattle.samples.specs.Plans.{Known};
+ghost use Rattle.std.specs.Prelude.{◌≡◌, IfOk, MatchResult};
+ghost use Rattle.plan.specs.Contents.{contents};
+ghost use Rattle.samples.specs.Plans.{Known, plan_of};
+ghost use Rattle.laws.specs.Checks.{tables};
 ghost use Rattle.account.specs.declared.checking.Trouble.TheVariants.{Refused, Memory};
-ghost use Rattle.account.specs.Sizes.{SizedFor};
+ghost use Rattle.account.specs.Accounts.{SizedFor, FindsKnown, AsKnown, counted};
 
 use banks::codes::code_bank;
 use checks::check;
@@ -51,7 +53,7 @@ pub(crate) struct Tables {
 impl Tables {
     // Tables of as many rows as the sample names.
     pub(crate) fn of(heap: Global, sample: &Sample) -> Result<Tables, AllocError>
-        ensures { IfOk result (SizedFor sample.now) }
+        ensures { IfOk result (λ t. SizedFor sample.now (tables t.front.items t.back.items t.marks.items)) }
     {
         Ok(Tables {
             front: vec![in heap; State::new(); sample.working.into()]?,
@@ -59,6 +61,19 @@ impl Tables {
             marks: vec![in heap; State::new(); sample.marks.into()]?,
         })
     }
+}
+
+// Checks the plan of the sample under its codes.
+fn judge(
+    sample: &Sample,
+    plan: &Plan,
+    front: &mut [State],
+    back: &mut [State],
+    marks: &mut [State],
+) -> Result<Verdict, Refusal>
+    ensures { Known sample.now → contents plan.now ≡ plan_of sample.now → SizedFor sample.now (tables front.old back.old marks.old) → FindsKnown sample.now result marks.new }
+{
+    check(plan, &code_bank(&sample.codes), front, back, marks)
 }
 
 // A sample's plan, the verdict on it, and the tables as the check left them.
@@ -72,13 +87,13 @@ pub(crate) struct Checked {
 impl Checked {
     // Makes the plan by its calls and checks it under the codes of the sample, with as many rows as it names.
     pub(crate) fn of(heap: Global, sample: &Sample) -> Result<Checked, Trouble>
-        ensures known { Known sample.now → MatchResult result (λ x. x.verdict ≡ sample.now.verdict) (λ e. e ≡ Memory) }
+        ensures known { Known sample.now → MatchResult result (AsKnown sample.now) (λ e. e ≡ Memory) }
     {
         let plan = sample.plan()?;
         let mut tables = Tables::of(heap, sample)?;
-        let verdict = check(
+        let verdict = judge(
+            sample,
             &plan,
-            &code_bank(&sample.codes),
             &mut tables.front,
             &mut tables.back,
             &mut tables.marks,
@@ -91,9 +106,14 @@ impl Checked {
     }
 
     // The marks, where the verdict is kept: the first rows of the mark table.
-    pub(crate) fn marks(&self) -> &[State] {
+    pub(crate) fn marks(&self) -> &[State]
+        ensures { result.now ≡ counted self.now.verdict self.now.tables.marks.items }
+    {
         match self.verdict {
-            Verdict::Kept { marks, .. } => usize::try_from(marks).ok().and_then(|count| self.tables.marks.get(..count)).unwrap_or(&[]),
+            Verdict::Kept { marks, .. } => {
+                let count = self.tables.marks.len().min(marks as usize);
+                &self.tables.marks[..count]
+            }
             Verdict::Missed { .. } | Verdict::RowsShort { .. } => &[],
         }
     }

@@ -94,7 +94,11 @@ impl Moment {
 }
 
 // Prints a line for each time, up to the one that gives the verdict.
-pub(crate) fn show_times(rt: &HostRuntime, sample: &Sample, checked: &Checked) -> anyhow::Result<()> {
+pub(crate) fn show_times(
+    rt: &HostRuntime,
+    sample: &Sample,
+    checked: &Checked,
+) -> anyhow::Result<()> {
     let mut tables = Tables::of(rt.alloc(), sample)?;
     let (plan, bank) = (&checked.plan, code_bank(&sample.codes));
     let mut front = Lent::new(&mut tables.front);

@@ -13,7 +13,13 @@ pub(crate) struct Many(pub(crate) u64, pub(crate) &'static str);
 
 impl fmt::Display for Many {
     fn fmt<W: fmt::Write>(&self, f: &mut fmt::Formatter<W>) -> fmt::Result {
-        write!(f, "{} {}{}", self.0, self.1, if self.0 == 1 { "" } else { "s" })
+        write!(
+            f,
+            "{} {}{}",
+            self.0,
+            self.1,
+            if self.0 == 1 { "" } else { "s" }
+        )
     }
 }
 
@@ -26,8 +32,14 @@ impl fmt::Display for Said {
         match self.0 {
             Verdict::Kept { rounds, marks } => write!(f, "kept {rounds} {marks}"),
             Verdict::Missed { time, number } => write!(f, "missed {time} {number}"),
-            Verdict::RowsShort { rows: Rows::Working, time } => write!(f, "rows short, working, {time}"),
-            Verdict::RowsShort { rows: Rows::Marks, time } => write!(f, "rows short, marks, {time}"),
+            Verdict::RowsShort {
+                rows: Rows::Working,
+                time,
+            } => write!(f, "rows short, working, {time}"),
+            Verdict::RowsShort {
+                rows: Rows::Marks,
+                time,
+            } => write!(f, "rows short, marks, {time}"),
         }
     }
 }
@@ -44,16 +56,34 @@ impl fmt::Display for Meaning<'_> {
         match self.verdict {
             Verdict::Kept { rounds, marks } => {
                 let (rounds, are) = (Many(rounds, "round"), if marks == 1 { "is" } else { "are" });
-                write!(f, "no run is ever late: after {rounds} no new mark came, and there {are} {marks}")
+                write!(
+                    f,
+                    "no run is ever late: after {rounds} no new mark came, and there {are} {marks}"
+                )
             }
-            Verdict::Missed { time, number } => write!(f, "a run is late at {time}, and none is before; {number} is the lowest number late then"),
-            Verdict::RowsShort { rows: Rows::Working, time } => {
+            Verdict::Missed { time, number } => write!(
+                f,
+                "a run is late at {time}, and none is before; {number} is the lowest number late then"
+            ),
+            Verdict::RowsShort {
+                rows: Rows::Working,
+                time,
+            } => {
                 let rows = Many(self.sample.working.into(), "row");
-                write!(f, "nothing is known of late runs: at {time} there are more states than the {rows} of a working table")
+                write!(
+                    f,
+                    "nothing is known of late runs: at {time} there are more states than the {rows} of a working table"
+                )
             }
-            Verdict::RowsShort { rows: Rows::Marks, time } => {
+            Verdict::RowsShort {
+                rows: Rows::Marks,
+                time,
+            } => {
                 let rows = Many(self.sample.marks.into(), "row");
-                write!(f, "nothing is known of late runs: at {time} there are more marks than the {rows} of the mark table")
+                write!(
+                    f,
+                    "nothing is known of late runs: at {time} there are more marks than the {rows} of the mark table"
+                )
             }
         }
     }
@@ -72,8 +102,14 @@ fn is_fixed(code: Code) -> bool {
 }
 
 fn show_handlers(rt: &HostRuntime, plan: &Plan) -> io::Result<()> {
-    for (number, handler) in (1..=plan.count()).filter_map(|number| Some((number, plan.handler(number)?))) {
-        println!(rt; "handler {number}: core {}, times {} to {}, period {}, offset {}", handler.core, handler.shortest, handler.longest, handler.period, handler.offset)?;
+    for (number, handler) in (1..=plan.count()).filter_map(|number| Some((
+        number,
+        plan.handler(number)?,
+    ))) {
+        println!(rt;
+            "handler {number}: core {}, times {} to {}, period {}, offset {}",
+            handler.core, handler.shortest, handler.longest, handler.period, handler.offset
+        )?;
     }
     Ok(())
 }
@@ -94,7 +130,9 @@ fn show_all_joins(rt: &HostRuntime, plan: &Plan) -> io::Result<()> {
 
 // Whether a handler is on the core.
 fn in_use(plan: &Plan, core: Core) -> bool {
-    (1..=plan.count()).any(|number| plan.handler(number).is_some_and(|handler| handler.core == core.number()))
+    (1..=plan.count()).any(|number| plan
+        .handler(number)
+        .is_some_and(|handler| handler.core == core.number()))
 }
 
 fn show_codes(rt: &HostRuntime, plan: &Plan, codes: &[Code; 8]) -> io::Result<()> {
@@ -118,22 +156,31 @@ pub(crate) fn show_plan(rt: &HostRuntime, plan: &Plan, codes: &[Code; 8]) -> io:
 
 // Prints the settling time, the round, and the rows of the tables.
 pub(crate) fn show_sizes(rt: &HostRuntime, plan: &Plan, sample: &Sample) -> io::Result<()> {
-    println!(rt; "settling time {}, round {}; rows {} working, {} marks", plan.settling(), plan.round(), sample.working, sample.marks)
+    println!(rt;
+        "settling time {}, round {}; rows {} working, {} marks",
+        plan.settling(),
+        plan.round(),
+        sample.working,
+        sample.marks
+    )
 }
 
-// Prints the time left of each handler.
-fn show_state(rt: &HostRuntime, plan: &Plan, state: &State) -> io::Result<()> {
-    print!(rt; "mark:")?;
+// Prints the time left of each handler in a mark.
+fn show_mark(rt: &HostRuntime, plan: &Plan, mark: &State) -> io::Result<()> {
+    print!(rt; "mark: times left")?;
+    if plan.count() == 0 {
+        print!(rt; " none")?;
+    }
     for number in 1..=plan.count() {
-        print!(rt; " {}", state.time_left(number))?;
+        print!(rt; " {}", mark.time_left(number))?;
     }
     println!(rt; "")
 }
 
 // Prints a line for each mark.
-pub(crate) fn show_states(rt: &HostRuntime, plan: &Plan, marks: &[State]) -> io::Result<()> {
-    for state in marks {
-        show_state(rt, plan, state)?;
+pub(crate) fn show_marks(rt: &HostRuntime, plan: &Plan, marks: &[State]) -> io::Result<()> {
+    for mark in marks {
+        show_mark(rt, plan, mark)?;
     }
     Ok(())
 }
