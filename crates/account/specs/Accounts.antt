@@ -1,5 +1,5 @@
 -- What the account of a sample rests on.
-use Rattle.std.specs.Prelude.{◌≡◌, ℕ, ◌-◌, ◌≤◌, List, [], length, take, Contains as Has, Ok, Result}
+use Rattle.std.specs.Prelude.{◌≡◌, ◌-◌, ◌≤◌, List, [], length, take, Contains as Has, Ok, Result}
 use Rattle.order.specs.Laws.{Choice}
 use Rattle.banks.specs.Codes.{coded}
 use Rattle.terms.specs.declared.refusals.Refusal.{Refusal}

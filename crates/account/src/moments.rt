@@ -37,9 +37,10 @@ impl fmt::Display for Moment {
         write!(f, ": {}", Many(self.states as u64, "state"))?;
         match self.event {
             Event::Nothing => Ok(()),
-            Event::Late(number) => write!(f, ", {number} is late"),
+            Event::Late(number) => write!(f, ", handler {number} is late"),
+            Event::NewMarks(0) => write!(f, ", no new mark"),
             Event::NewMarks(count) => write!(f, ", {}", Many(count as u64, "new mark")),
-            Event::NoRoomForMarks => write!(f, ", and more marks than rows"),
+            Event::NoRoomForMarks => write!(f, ", more marks than mark rows"),
         }
     }
 }
@@ -107,7 +108,7 @@ pub(crate) fn show_times(
     let mut room = begin(&mut front);
     for time in 0..=last_time(plan, checked.verdict) {
         if room.is_err() {
-            println!(rt; "at {time}: more states than rows")?;
+            println!(rt; "at {time}: more states than working rows")?;
             return Ok(());
         }
         println!(rt; "{}", Moment::of(plan, time, &front, &mut marks))?;

@@ -6,6 +6,7 @@ use plan::plans::Plan;
 use samples::Sample;
 use std::{fmt, io};
 use step::states::State;
+use terms::handlers::Handler;
 
 // So many things of this name.
 #[derive(Clone, Copy)]
@@ -23,6 +24,14 @@ impl fmt::Display for Many {
     }
 }
 
+// Which table is short.
+fn table(rows: Rows) -> &'static str {
+    match rows {
+        Rows::Working => "working",
+        Rows::Marks => "marks",
+    }
+}
+
 // A verdict, in words and numbers.
 #[derive(Clone, Copy)]
 pub(crate) struct Said(pub(crate) Verdict);
@@ -32,14 +41,9 @@ impl fmt::Display for Said {
         match self.0 {
             Verdict::Kept { rounds, marks } => write!(f, "kept {rounds} {marks}"),
             Verdict::Missed { time, number } => write!(f, "missed {time} {number}"),
-            Verdict::RowsShort {
-                rows: Rows::Working,
-                time,
-            } => write!(f, "rows short, working, {time}"),
-            Verdict::RowsShort {
-                rows: Rows::Marks,
-                time,
-            } => write!(f, "rows short, marks, {time}"),
+            Verdict::RowsShort { rows, time } => {
+                write!(f, "rows short, {}, {time}", table(rows))
+            }
         }
     }
 }
@@ -63,26 +67,17 @@ impl fmt::Display for Meaning<'_> {
             }
             Verdict::Missed { time, number } => write!(
                 f,
-                "a run is late at {time}, and none is before; {number} is the lowest number late then"
+                "some run is late at time {time}, and none before; the lowest number late then is {number}"
             ),
-            Verdict::RowsShort {
-                rows: Rows::Working,
-                time,
-            } => {
-                let rows = Many(self.sample.working.into(), "row");
+            Verdict::RowsShort { rows, time } => {
+                let (found, room) = match rows {
+                    Rows::Working => ("states", self.sample.working),
+                    Rows::Marks => ("marks", self.sample.marks),
+                };
                 write!(
                     f,
-                    "nothing is known of late runs: at {time} there are more states than the {rows} of a working table"
-                )
-            }
-            Verdict::RowsShort {
-                rows: Rows::Marks,
-                time,
-            } => {
-                let rows = Many(self.sample.marks.into(), "row");
-                write!(
-                    f,
-                    "nothing is known of late runs: at {time} there are more marks than the {rows} of the mark table"
+                    "the tables are too short to tell: at time {time} there are more {found} than a table of {} holds",
+                    Many(room.into(), "row")
                 )
             }
         }
@@ -101,15 +96,34 @@ fn is_fixed(code: Code) -> bool {
     matches!(code, Code::FixedPriority)
 }
 
+// From the shortest to the longest time.
+#[derive(Clone, Copy)]
+struct Times(u16, u16);
+
+impl fmt::Display for Times {
+    fn fmt<W: fmt::Write>(&self, f: &mut fmt::Formatter<W>) -> fmt::Result {
+        if self.0 == self.1 {
+            write!(f, "{}", self.0)
+        } else {
+            write!(f, "{} to {}", self.0, self.1)
+        }
+    }
+}
+
+fn show_handler(rt: &HostRuntime, number: u8, handler: Handler) -> io::Result<()> {
+    let times = Times(handler.shortest, handler.longest);
+    let (core, period, offset) = (handler.core, handler.period, handler.offset);
+    println!(rt; "handler {number}: core {core}, works {times}, period {period}, offset {offset}")
+}
+
 fn show_handlers(rt: &HostRuntime, plan: &Plan) -> io::Result<()> {
-    for (number, handler) in (1..=plan.count()).filter_map(|number| Some((
-        number,
-        plan.handler(number)?,
-    ))) {
-        println!(rt;
-            "handler {number}: core {}, times {} to {}, period {}, offset {}",
-            handler.core, handler.shortest, handler.longest, handler.period, handler.offset
-        )?;
+    if plan.count() == 0 {
+        println!(rt; "no handler")?;
+    }
+    for number in 1..=plan.count() {
+        if let Some(handler) = plan.handler(number) {
+            show_handler(rt, number, handler)?;
+        }
     }
     Ok(())
 }
@@ -157,7 +171,7 @@ pub(crate) fn show_plan(rt: &HostRuntime, plan: &Plan, codes: &[Code; 8]) -> io:
 // Prints the settling time, the round, and the rows of the tables.
 pub(crate) fn show_sizes(rt: &HostRuntime, plan: &Plan, sample: &Sample) -> io::Result<()> {
     println!(rt;
-        "settling time {}, round {}; rows {} working, {} marks",
+        "settling time {}, round {}, working rows {}, mark rows {}",
         plan.settling(),
         plan.round(),
         sample.working,
