@@ -15,14 +15,14 @@ use Rattle.model.specs.declared.verdicts.Verdict.TheVariants.{Kept, Missed, Rows
 use Rattle.step.specs.declared.states.State.{State}
 use Rattle.samples.specs.declared.Sample.{Sample}
 use Rattle.samples.specs.Plans.{Known, plan_of}
-use Rattle.laws.specs.Checks.{Tables, Unfit, Judges, Checks, MarksAfter, TablesAfter}
-use Rattle.account.specs.Accounts.{SizedFor, counted, AreMarks, FindsKnown}
+use Rattle.laws.specs.Checks.{Tables, Unfit, Judges, Checks, MarksAfter, TablesAfter, KeptRows}
+use Rattle.account.specs.Accounts.{SizedFor, counted, FindsKnown}
 
 -- choices that answer every question alike are one
 pub one_choice : (D E : Choice) → ((k : Core) (a b : Candidate) (t : ℕ) → D k a b t ≡ E k a b t) → D ≡ E
 one_choice D E same = fun_ext (λ k. fun_ext (λ a. fun_ext (λ b. fun_ext (λ t. same k a b t))))
 
-counted_marks : (p : Contents) (D : Choice) (v : Verdict) (was is : List State) → MarksAfter p D v was is → AreMarks p D v (counted v is)
+counted_marks : (p : Contents) (D : Choice) (v : Verdict) (was is : List State) → MarksAfter p D v was is → KeptRows p D v (counted v is)
 counted_marks p D (Kept k c) was is m = (length-take-le c is m.fits, m.marks)
 counted_marks p D (Missed t n) was is m = tt
 counted_marks p D (RowsShort r t) was is m = tt

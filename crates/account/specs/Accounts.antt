@@ -1,15 +1,14 @@
 -- What the account of a sample rests on.
-use Rattle.std.specs.Prelude.{◌≡◌, ◌-◌, ◌≤◌, List, [], length, take, Contains as Has, Ok, Result}
-use Rattle.order.specs.Laws.{Choice}
+use Rattle.std.specs.Prelude.{◌≡◌, ◌≤◌, List, [], length, take, Contains as Has, Ok, Result}
 use Rattle.banks.specs.Codes.{coded}
 use Rattle.terms.specs.declared.refusals.Refusal.{Refusal}
-use Rattle.plan.specs.Contents.{Contents, contents}
+use Rattle.plan.specs.Contents.{contents}
 use Rattle.model.specs.declared.verdicts.Verdict.{Verdict}
 use Rattle.model.specs.declared.verdicts.Verdict.TheVariants.{Kept, Missed, RowsShort}
 use Rattle.step.specs.declared.states.State.{State}
 use Rattle.samples.specs.declared.Sample.{Sample}
 use Rattle.samples.specs.Plans.{Known, plan_of}
-use Rattle.laws.specs.Checks.{Tables, HoldsMarks, most_rows}
+use Rattle.laws.specs.Checks.{Tables, KeptRows, most_rows}
 use Rattle.account.specs.declared.checking.Checked.{Checked}
 
 -- the tables have as many rows as the sample names, and no more than a check takes
@@ -26,22 +25,16 @@ counted (Kept k c) rows = take c rows
 counted (Missed t n) rows = []
 counted (RowsShort r t) rows = []
 
--- where the verdict is kept, these are the marks, each once
-abbrev pub AreMarks : Contents → Choice → Verdict → List State → Type 0
-AreMarks p D (Kept k c) rows = (length rows ≡ c) × HoldsMarks p D (k - 1) rows
-AreMarks p D (Missed t n) rows = Unit {0}
-AreMarks p D (RowsShort r t) rows = Unit {0}
-
 -- the verdict is the one known, and where that is kept, the first of the rows are the marks
 pub record FindsKnown (x : Sample) (r : Result Verdict Refusal) (rows : List State) : Type 0 where
   pub verdict : r ≡ Ok x.verdict
-  pub marks : AreMarks (plan_of x) (coded x.codes) x.verdict (counted x.verdict rows)
+  pub marks : KeptRows (plan_of x) (coded x.codes) x.verdict (counted x.verdict rows)
 
 -- the plan is the sample's, the verdict is the one known, and what is shown as marks are the marks
 pub record AsKnown (x : Sample) (c : Checked) : Type 0 where
   pub plan : contents c.plan ≡ plan_of x
   pub verdict : c.verdict ≡ x.verdict
-  pub marks : AreMarks (plan_of x) (coded x.codes) x.verdict (counted c.verdict c.tables.marks.items)
+  pub marks : KeptRows (plan_of x) (coded x.codes) x.verdict (counted c.verdict c.tables.marks.items)
 
 -- each of them is as it says
 abbrev pub AllKnown : List Sample → Type 0

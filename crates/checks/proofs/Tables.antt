@@ -12,8 +12,7 @@ use Rattle.model.specs.declared.verdicts.Verdict.TheVariants.{Kept, Missed, Rows
 use Rattle.model.specs.Telling.{is_kept}
 use Rattle.model.specs.Verdicts.{VerdictIs}
 use Rattle.step.specs.declared.states.State.{State}
-use Rattle.laws.specs.Checks.{Tables, most_rows, Unfit, Judges, MarksAfter}
-use Rattle.checks.specs.Walks.{KeptRows}
+use Rattle.laws.specs.Checks.{Tables, most_rows, Unfit, Judges, MarksAfter, KeptRows}
 
 module _ (p : Contents) (D : Choice) where
   pub judged : (x : Tables) (v : Verdict) → length x.front ≡ length x.back → length x.front ≤ most_rows → length x.marks ≤ most_rows

@@ -4,8 +4,8 @@ ghost use Rattle.plan.specs.Contents.{contents, settling};
 ghost use Rattle.model.specs.declared.verdicts.Verdict.TheVariants.{RowsShort};
 ghost use Rattle.model.specs.Verdicts.{VerdictIs};
 ghost use Rattle.model.specs.Telling.{is_kept};
-ghost use Rattle.laws.specs.Checks.{most_rows};
-ghost use Rattle.checks.specs.Walks.{Stopped, Begun, SamePlan, Walks, Rounded, Ended, KeptRows};
+ghost use Rattle.laws.specs.Checks.{most_rows, KeptRows};
+ghost use Rattle.checks.specs.Walks.{Stopped, Begun, SamePlan, Walks, Rounded, Ended};
 
 use fronts::{advance, begin, first_late};
 use gather::tables::Table;

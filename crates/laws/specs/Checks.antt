@@ -41,6 +41,12 @@ pub record HoldsMarks (p : Contents) (D : Choice) (k : ℕ) (rows : List State) 
   pub each : (v : List ℕ) → Marked p D k v → (x : State) × Has rows x × Holds p x v
   pub only : (x : State) → Has rows x → (v : List ℕ) × Marked p D k v × Holds p x v
 
+-- where the verdict is kept, the rows are the marks, so many of them
+abbrev pub KeptRows : Contents → Choice → Verdict → List State → Type 0
+KeptRows p D (Kept k c) rows = (length rows ≡ c) × HoldsMarks p D (k - 1) rows
+KeptRows p D (Missed t n) rows = Unit {0}
+KeptRows p D (RowsShort r t) rows = Unit {0}
+
 -- the first c rows of the mark table hold the marks up to k, and those past them are what they were
 pub record LeavesMarks (p : Contents) (D : Choice) (k c : ℕ) (was is : List State) : Type 0 where
   pub fits : c ≤ length is
