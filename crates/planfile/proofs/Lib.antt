@@ -1,0 +1,2 @@
+pub mod FiledEntries
+pub mod Outcomes
