@@ -1,2 +1,3 @@
 pub mod FiledEntries
 pub mod Outcomes
+pub mod FiledRecords
