@@ -28,7 +28,7 @@ module _ (bytes : List ℕ) (s : Standing) where
   not_below : (x y : ℕ) → ¬ (x < y) → y ≤ x
   not_below x y not = elim (cases_lt x y) [ inl l ↦ absurd (not l) | inr g ↦ g ]
 
-  past_all : Passes → NextIs bytes s (Ok (record_here bytes s))
+  pub past_all : Passes → NextIs bytes s (Ok (record_here bytes s))
   past_all p =
       let some = p.some in
       let known = p.known in

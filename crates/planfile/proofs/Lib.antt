@@ -1,3 +1,4 @@
 pub mod FiledEntries
 pub mod Outcomes
 pub mod FiledRecords
+pub mod FiledSteps
