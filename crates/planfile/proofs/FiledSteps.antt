@@ -50,7 +50,7 @@ module _ (bytes : List ℕ) where
   behind : (s : Standing) (left : List ℕ) (n : ℕ) → drop s.place bytes ≡ left → drop (s.place + suc n) bytes ≡ drop (suc n) left
   behind s left n e = sym (drop-drop (suc n) s.place bytes) ∙ ap (drop (suc n)) e
 
-  enough : (s : Standing) (left : List ℕ) (n : ℕ) → drop s.place bytes ≡ left → n < length left → s.place + suc n ≤ length bytes
+  pub enough : (s : Standing) (left : List ℕ) (n : ℕ) → drop s.place bytes ≡ left → n < length left → s.place + suc n ≤ length bytes
   enough s left n e l = omega (arith, length-drop s.place bytes, ap length e, l)
 
   -- the record that stands there is read, and enters
