@@ -6,3 +6,4 @@ pub mod FiledHandlers
 pub mod FiledCores
 pub mod FiledTurns
 pub mod FiledJoins
+pub mod FiledRead
