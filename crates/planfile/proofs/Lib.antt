@@ -7,3 +7,5 @@ pub mod FiledCores
 pub mod FiledTurns
 pub mod FiledJoins
 pub mod FiledRead
+pub mod FiledBytes
+pub mod FiledMore
