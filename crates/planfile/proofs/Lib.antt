@@ -9,3 +9,4 @@ pub mod FiledJoins
 pub mod FiledRead
 pub mod FiledBytes
 pub mod FiledMore
+pub mod FiledWritten
