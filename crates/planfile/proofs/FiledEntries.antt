@@ -1,16 +1,12 @@
 -- Reading and entering one record: each has one answer.
-use Rattle.std.proofs.Common.{◌≡◌, ℕ, suc, ◌<◌, ◌≤◌, ◌⊎◌, List, length, Ok, Err, Result, is_ok, sym, refl, ap, ◌∙◌, subst, inl, inr, true≢false, arith}
-use Rattle.std.proofs.lemmas.Bool.{cases_eq, cases_lt}
+use Rattle.std.proofs.Common.{◌≡◌, ℕ, ◌⊎◌, List, Ok, Err, Result, sym, refl, ap, ◌∙◌, inl, inr}
 use Rattle.plan.specs.Contents.{Contents}
 use Rattle.plan.proofs.Answered.{one_answer_each}
 use Rattle.planfile.specs.declared.faults.Cause.{Cause}
-use Rattle.planfile.specs.declared.faults.Flaw.TheVariants.{OutOfOrder}
 use Rattle.planfile.specs.declared.faults.Fault.{Fault}
 use Rattle.planfile.specs.declared.records.Record.{Record}
 use Rattle.planfile.specs.declared.records.Record.TheVariants.{Handler as HandlerRecord, Join as JoinRecord, Core as CoreRecord, End}
-use Rattle.planfile.specs.Tests.{Standing, past, flaw, record_here, NextIs, of_plan, CodeEnters, Enters}
-use Rattle.planfile.specs.Reads.{Reached, none, one_more, IsFile, IsRefused}
-use Rattle.planfile.specs.Theorems.{EveryFileIsReadOnce}
+use Rattle.planfile.specs.Tests.{Standing, NextIs, of_plan, CodeEnters, Enters}
 
 -- two answers by the same tests are one
 one_answer : {A E P Q Q' : Type 0} {r s : Result A E} {why : E} → (Q → Q' → s ≡ r)

@@ -1,18 +1,13 @@
 -- The records of the joins are read.
-use Rattle.std.proofs.Common.{◌≡◌, ℕ, zero, suc, ◌+◌, ◌-◌, ◌*◌, ◌<◌, ◌≤◌, Bool, true, false, cond, ◌&&◌, ◌⊎◌, List, [], ◌∷◌, ◌++◌, nat_le, sym, refl, ap, ap₂, ◌∙◌, subst, inl, inr, true≢false, arith}
+use Rattle.std.proofs.Common.{◌≡◌, ℕ, zero, suc, ◌+◌, ◌-◌, ◌<◌, ◌≤◌, Bool, true, false, cond, List, [], ◌++◌, sym, refl, ap₂, ◌∙◌, subst, inl, inr, true≢false, arith}
 use mathlib.Core.Path.{fun_ext}
-use Rattle.std.specs.Prelude.{◌==◌}
 use Rattle.std.specs.List.{flat_map, range_with_len}
-use Rattle.std.proofs.lemmas.Bool.{cases_eq, cases_lt, le-leb, eqb-true, eq-eqb, or_cases, or_left, or_right, and_parts, and_from}
+use Rattle.std.proofs.lemmas.Bool.{cases_eq}
 use Rattle.std.proofs.lemmas.List.{append_assoc}
-use Rattle.terms.specs.declared.handlers.Handler.{Handler}
-use Rattle.plan.specs.Joins.{Chain, one, more}
-use Rattle.plan.specs.Contents.{Contents, count, at, joins, Sound}
-use Rattle.plan.specs.Calls.{with_join, ClosesCircle, MayJoin}
+use Rattle.plan.specs.Contents.{Contents, count, Sound}
 use Rattle.planfile.specs.Files.{join_record, record_if_joined, joins_from, join_records}
 use Rattle.planfile.specs.Tests.{Standing}
-use Rattle.planfile.proofs.FiledRecords.{onward}
-use Rattle.planfile.proofs.FiledSteps.{Left, Later, join_read}
+use Rattle.planfile.proofs.FiledSteps.{Left}
 use Rattle.planfile.proofs.FiledTurns.{joins_is, both_or_none, turn, Joined, low, skipped, same_turn, joined_read}
 use Rattle.planfile.proofs.FiledHandlers.{alone, Handled}
 

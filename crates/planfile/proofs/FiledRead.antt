@@ -1,11 +1,10 @@
 -- What is written of a plan and codes is read back as they were.
 use Rattle.std.proofs.Common.{◌≡◌, ℕ, suc, List, [], ◌∷◌, ◌++◌, sym, refl, ◌∙◌, subst, arith}
 use Rattle.std.proofs.lemmas.List.{append_assoc}
-use Rattle.plan.specs.Contents.{Contents, Sound}
 use Rattle.planfile.specs.Files.{handler_records, join_records, core_records, file_of}
-use Rattle.planfile.specs.Tests.{Standing, outset}
-use Rattle.planfile.specs.Reads.{none, IsFile}
-use Rattle.planfile.specs.Theorems.{AreCodes, WrittenIsRead}
+use Rattle.planfile.specs.Tests.{outset}
+use Rattle.planfile.specs.Reads.{none}
+use Rattle.planfile.specs.Theorems.{WrittenIsRead}
 use Rattle.planfile.proofs.FiledSteps.{Left}
 use Rattle.planfile.proofs.FiledHandlers.{alone, handlers_read}
 use Rattle.planfile.proofs.FiledJoins.{joins_read}

@@ -1,14 +1,14 @@
 -- One record more of a file that is written is read.
-use Rattle.std.proofs.Common.{◌≡◌, ℕ, suc, ◌+◌, ◌-◌, ◌*◌, ◌/◌, ◌%◌, ◌<◌, ◌≤◌, ◌≢◌, ◌⊎◌, List, [], ◌∷◌, ◌++◌, length, drop, Ok, sym, refl, ap, ap₂, ◌∙◌, subst, inl, inr, arith}
+use Rattle.std.proofs.Common.{◌≡◌, ℕ, suc, ◌+◌, ◌*◌, ◌/◌, ◌%◌, ◌<◌, ◌≤◌, ◌⊎◌, List, [], ◌∷◌, ◌++◌, length, drop, Ok, sym, refl, ap, ap₂, ◌∙◌, subst, inl, inr, arith}
 use Rattle.std.proofs.Math.Nat.{div-add-mod}
 use Rattle.std.proofs.lemmas.List.{drop-drop, length-drop}
 use Rattle.terms.specs.declared.handlers.Handler.{Handler}
-use Rattle.plan.specs.Contents.{Contents, count, Known}
+use Rattle.plan.specs.Contents.{Contents, count}
 use Rattle.plan.specs.Calls.{added, Takes, Registers, with_join, MayJoin, Joins}
 use Rattle.planfile.specs.declared.records.Record.{Record}
 use Rattle.planfile.specs.declared.records.Record.TheVariants.{Handler as HandlerRecord, Join as JoinRecord, Core as CoreRecord, End}
 use Rattle.planfile.specs.Files.{handler_record, join_record, core_record}
-use Rattle.planfile.specs.Tests.{Standing, byte, word, kind_here, body, handler_here, record_here, past, IsCode, Enters}
+use Rattle.planfile.specs.Tests.{Standing, byte, word, kind_here, handler_here, record_here, IsCode, Enters}
 use Rattle.planfile.specs.Reads.{Reached, one_more}
 use Rattle.planfile.proofs.FiledRecords.{byte_of, Passes, past_all, Shape, onward, handler_shape, join_shape, core_shape, end_shape}
 

@@ -1,182 +1,93 @@
 -- Bytes are a file exactly where they are the file that is written of its plan and codes.
-use Rattle.std.proofs.Common.{◌≡◌, ℕ, suc, ◌+◌, ◌-◌, ◌*◌, ◌<◌, ◌≤◌, Bool, true, false, ◌&&◌, ◌⊎◌, List, [], ◌∷◌, ◌++◌, length, drop, slice_index, Ok, Err, Result, is_ok, sym, refl, ap, ◌∙◌, subst, inl, inr, true≢false, arith}
-use Rattle.std.specs.Prelude.{◌==◌}
-use Rattle.std.specs.List.{Contains as Has}
-use Rattle.std.proofs.lemmas.Bool.{eqb-true, or_cases, and_parts}
-use Rattle.std.proofs.lemmas.List.{append_assoc, append-nil, length_push, drop_all}
-use Rattle.std.proofs.lemmas.List.Elements.{Contains-push_cases}
-use Rattle.terms.specs.declared.handlers.Handler.{Handler}
-use Rattle.terms.specs.declared.refusals.Refusal.{Refusal}
-use Rattle.plan.specs.Contents.{Contents, empty, Sound}
-use Rattle.plan.specs.Calls.{added, Takes, Registers, with_join, MayJoin, Joins}
-use Rattle.laws.specs.Histories.{new}
-use Rattle.laws.proofs.Keeping.{added_sound, join_sound}
-use Rattle.laws.proofs.Sounds.{may_take, may_join, after_sound}
-use Rattle.planfile.specs.declared.faults.Cause.{Cause}
+use Rattle.std.proofs.Common.{◌≡◌, ℕ, suc, List, [], ◌∷◌, ◌++◌, drop, Ok, sym, ap, ◌∙◌, subst, inl, inr, arith}
+use Rattle.std.proofs.lemmas.Bool.{cases_eq}
+use Rattle.std.proofs.lemmas.List.{drop_all}
+use Rattle.plan.specs.Contents.{Contents, Sound}
+use Rattle.plan.specs.Calls.{added, with_join}
 use Rattle.planfile.specs.declared.records.Record.{Record}
 use Rattle.planfile.specs.declared.records.Record.TheVariants.{Handler as HandlerRecord, Join as JoinRecord, Core as CoreRecord, End}
-use Rattle.planfile.specs.Files.{handler_record, join_record, core_record, handler_records, join_records, core_records, file_of}
-use Rattle.planfile.specs.Tests.{Standing, outset, byte, kind_here, handler_here, record_here, past, of_plan, IsCode, NextIs, Enters}
+use Rattle.planfile.specs.Files.{handler_records, join_records, core_records, file_of}
+use Rattle.planfile.specs.Tests.{Standing, byte, kind_here, handler_here, record_here, past, NextIs, Enters}
 use Rattle.planfile.specs.Reads.{Reached, none, one_more, IsFile}
 use Rattle.planfile.specs.Theorems.{AreBytes, AreCodes, FilesAreWritten}
 use Rattle.planfile.proofs.FiledEntries.{ok_one}
 use Rattle.planfile.proofs.FiledRecords.{Passes, passes, entry_is, Shape, onward, handler_shape, join_shape, core_shape, end_shape}
-use Rattle.planfile.proofs.FiledBytes.{handler_there, pair_there, end_there}
-use Rattle.planfile.proofs.FiledMore.{handlers_push, joins_push, cores_push, no_joins}
+use Rattle.planfile.proofs.FiledTold.{taken, joined, Told, told_first, told_handler, told_join, told_core, told_end}
 use Rattle.planfile.proofs.FiledRead.{parts, written_is_read}
 
--- ---- what is accepted
-
-taken : (k next : Contents) (h : Handler) (q : Result ℕ Refusal) → Registers k h q next → Ok tt ≡ of_plan q → Takes k h × (next ≡ added k h)
-taken k next h (Ok n) m e = (may_take k next h n m, m.leaves)
-taken k next h (Err f) m e = absurd (true≢false (ap is_ok e))
-
-joined : (k next : Contents) (a b : ℕ) (q : Result (Unit {0}) Refusal) → Joins k a b q next → Ok tt ≡ of_plan q → MayJoin k a b × (next ≡ with_join k a b)
-joined k next a b (Ok u) m e = (may_join k next a b u m, m.leaves)
-joined k next a b (Err f) m e = absurd (true≢false (ap is_ok e))
-
--- ---- one record more in a list of records
-
-module _ (hs js cs rest record_ left : List ℕ) (e : rest ≡ record_ ++ left) where
-  more_handlers : (hs' js' : List ℕ) → hs' ≡ hs ++ record_ → js ≡ [] → js' ≡ [] → cs ≡ [] → hs ++ (js ++ (cs ++ rest)) ≡ hs' ++ (js' ++ (cs ++ left))
-  more_handlers hs' js' eh ej ej' ec = rw (e, eh, ej, ej', ec) (sym (append_assoc hs record_ left))
-
-  more_joins : (js' : List ℕ) → js' ≡ js ++ record_ → cs ≡ [] → hs ++ (js ++ (cs ++ rest)) ≡ hs ++ (js' ++ (cs ++ left))
-  more_joins js' ej ec = rw (e, ej, ec) (ap (λ l. hs ++ l) (sym (append_assoc js record_ left)))
-
-  more_cores : (cs' : List ℕ) → cs' ≡ cs ++ record_ → hs ++ (js ++ (cs ++ rest)) ≡ hs ++ (js ++ (cs' ++ left))
-  more_cores cs' ec = rw (e, ec) (ap (λ l. hs ++ (js ++ l)) (sym (append_assoc cs record_ left)))
-
 module _ (bytes : List ℕ) (small : AreBytes bytes) where
-  -- the bytes are the records of this plan and these codes, and then these
-  abbrev Parted : Contents → List ℕ → List ℕ → Type 0
-  Parted k codes rest = bytes ≡ handler_records k ++ (join_records k ++ (core_records 1 codes ++ rest))
+  module _ (s : Standing) (k next : Contents) (codes more : List ℕ) (r : Record) (told : Told bytes small s k codes) (going : ¬ (s.kind ≡ 4)) (is : NextIs bytes s (Ok r))
+      (enters : Enters k codes r (Ok tt) next more) where
+    p : Passes bytes s
+    p = passes bytes s r is
 
-  -- what the records so far tell
-  record Told (s : Standing) (k : Contents) (codes : List ℕ) : Type 0 where
-    sound : Sound k
-    straight : s.kind ≤ 1 → (x y : ℕ) → k.joined x y ≡ false
-    bare : s.kind ≤ 2 → codes ≡ []
-    earlier : (x y : ℕ) → k.joined x y ≡ true → (suc x < s.first) ⊎ ((suc x ≡ s.first) × (suc y ≤ s.second))
-    cores : s.cores ≡ length codes
-    few : s.cores ≤ 8
-    each : (c : ℕ) → Has codes c → IsCode c
-    going : ¬ (s.kind ≡ 4) → Parted k codes (drop s.place bytes)
-    ended : s.kind ≡ 4 → (8 ≤ s.cores) × Parted k codes (4 ∷ drop s.place bytes)
+    -- the record that enters, by its kind
+    enters_as : (n : ℕ) (x : Record) (t : Standing) → Shape bytes s n x t → Enters k codes x (Ok tt) next more
+    enters_as n x t shape = subst (λ y. Enters k codes y (Ok tt) next more) (ok_one (record_here bytes s) r (entry_is bytes s r is) ∙ shape.entry) enters
 
-  told_first : Told outset empty []
-  told_first = record {
-    sound = after_sound [] empty new;
-    straight = λ l x y. refl;
-    bare = λ l. refl;
-    earlier = λ x y j. absurd (true≢false (sym j));
-    cores = refl;
-    few = omega arith;
-    each = λ c m. absurd (omega (arith, m.1));
-    going = λ n. refl;
-    ended = λ e. absurd (omega (arith, e));
-  }
+    moved : (t : Standing) (l : Contents) (c : List ℕ) → past bytes s ≡ t → next ≡ l → more ≡ c → Told bytes small t l c → Told bytes small (past bytes s) next more
+    moved t l c et el ec x =
+        subst (λ t. Told bytes small t next more) (sym et) (subst (λ l. Told bytes small t l more) (sym el) (subst (λ c. Told bytes small t l c) (sym ec) x))
 
-  module _ (s : Standing) (k : Contents) (codes : List ℕ) (told : Told s k codes) (going : ¬ (s.kind ≡ 4)) (p : Passes bytes s) where
-    told_handler : (kind_here bytes s ≡ 1) → Takes k (handler_here bytes s) → Told (onward bytes s 9 1 s.first s.second s.cores) (added k (handler_here bytes s)) codes
-    told_handler kind takes =
-        let h = handler_here bytes s in
-        let low : s.kind ≤ 1 = omega (arith, p.rises, kind) in
-        let inside : s.place + 10 ≤ length bytes = omega (arith, p.inside, (handler_shape bytes s kind).long) in
-        let no_codes : codes ≡ [] = told.bare (omega (arith, low)) in
-        record {
-          sound = added_sound k told.sound h takes;
-          straight = λ l. told.straight low;
-          bare = λ l. no_codes;
-          earlier = told.earlier;
-          cores = told.cores;
-          few = told.few;
-          each = told.each;
-          going = λ n.
-              told.going going
-              ∙ more_handlers (handler_records k) (join_records k) (core_records 1 codes) (drop s.place bytes) (handler_record h) (drop (s.place + 10) bytes)
-              (handler_there bytes s small kind inside)
-              (handler_records (added k h)) (join_records (added k h)) (handlers_push k h)
-              (no_joins k (told.straight low)) (no_joins (added k h) (told.straight low)) (ap (core_records 1) no_codes);
-          ended = λ e. absurd (omega (arith, e));
-        }
-
-    told_join : (kind_here bytes s ≡ 2) → MayJoin k (byte bytes s 1) (byte bytes s 2)
-        → Told (onward bytes s 2 2 (byte bytes s 1) (byte bytes s 2) s.cores) (with_join k (byte bytes s 1) (byte bytes s 2)) codes
-    told_join kind may =
-        let a = byte bytes s 1 in
-        let b = byte bytes s 2 in
-        let no_codes : codes ≡ [] = told.bare (omega (arith, p.rises, kind)) in
-        let inside : s.place + 3 ≤ length bytes = omega (arith, p.inside, (join_shape bytes s kind).long) in
-        record {
-          sound = join_sound k told.sound a b may;
-          straight = λ l. absurd (omega (arith, l));
-          bare = λ l. no_codes;
-          earlier = earlier;
-          cores = told.cores;
-          few = told.few;
-          each = told.each;
-          going = λ n.
-              told.going going
-              ∙ more_joins (handler_records k) (join_records k) (core_records 1 codes) (drop s.place bytes) (join_record a b) (drop (s.place + 3) bytes)
-              (pair_there bytes s 2 kind inside) (join_records (with_join k a b))
-              (joins_push k a b may.known_a.0 may.known_b.0 last may.known_a may.known_b) (ap (core_records 1) no_codes);
-          ended = λ e. absurd (omega (arith, e));
-        }
+    told_next : Told bytes small (past bytes s) next more
+    told_next =
+        elim (cases_eq (kind_here bytes s) 1) [
+          | inl e ↦ handler e
+          | inr one ↦
+              (elim (cases_eq (kind_here bytes s) 2) [
+                | inl e ↦ join e
+                | inr two ↦ (elim (cases_eq (kind_here bytes s) 3) [ inl e ↦ core e | inr three ↦ end (omega (arith, one, two, three, p.some, p.known)) ])
+              ])
+        ]
       where
-        last : (x y : ℕ) → k.joined x y ≡ true → (suc x < byte bytes s 1) ⊎ ((suc x ≡ byte bytes s 1) × (suc y < byte bytes s 2))
-        last x y j = after (told.earlier x y j) (p.later kind)
-          where
-            after : (suc x < s.first) ⊎ ((suc x ≡ s.first) × (suc y ≤ s.second)) → (s.first < byte bytes s 1) ⊎ ((s.first ≡ byte bytes s 1) × (s.second < byte bytes s 2))
-                → (suc x < byte bytes s 1) ⊎ ((suc x ≡ byte bytes s 1) × (suc y < byte bytes s 2))
-            after (inl l) (inl m) = inl (omega (arith, l, m))
-            after (inl l) (inr m) = inl (omega (arith, l, m.0))
-            after (inr l) (inl m) = inl (omega (arith, l.0, m))
-            after (inr l) (inr m) = inr (omega (arith, l.0, m.0), omega (arith, l.1, m.1))
+        handler : kind_here bytes s ≡ 1 → Told bytes small (past bytes s) next more
+        handler e =
+            let h = handler_here bytes s in
+            let t = onward bytes s 9 1 s.first s.second s.cores in
+            let shape = handler_shape bytes s e in
+            let m = enters_as 9 (HandlerRecord h) t shape in
+            let q = taken k next h m.0 m.1 m.2 in
+            moved t (added k h) codes shape.after q.1 m.3 (told_handler bytes small s k codes told going p e q.0)
 
-        earlier : (x y : ℕ) → (with_join k (byte bytes s 1) (byte bytes s 2)).joined x y ≡ true
-            → (suc x < byte bytes s 1) ⊎ ((suc x ≡ byte bytes s 1) × (suc y ≤ byte bytes s 2))
-        earlier x y j =
-            elim (or_cases (k.joined x y) (suc x == byte bytes s 1 && suc y == byte bytes s 2) j) [
-              | inl h ↦ (elim (last x y h) [ inl l ↦ inl l | inr q ↦ inr (q.0, omega (arith, q.1)) ])
-              | inr h ↦
-                  (let q = and_parts (suc x == byte bytes s 1) (suc y == byte bytes s 2) h in
-                  let second : suc y ≡ byte bytes s 2 = eqb-true (suc y) (byte bytes s 2) q.1 in
-                  inr (eqb-true (suc x) (byte bytes s 1) q.0, omega (arith, second)))
-            ]
+        join : kind_here bytes s ≡ 2 → Told bytes small (past bytes s) next more
+        join e =
+            let a = byte bytes s 1 in
+            let b = byte bytes s 2 in
+            let t = onward bytes s 2 2 a b s.cores in
+            let shape = join_shape bytes s e in
+            let m = enters_as 2 (JoinRecord a b) t shape in
+            let q = joined k next a b m.0 m.1 m.2 in
+            moved t (with_join k a b) codes shape.after q.1 m.3 (told_join bytes small s k codes told going p e q.0)
 
-    told_core : (kind_here bytes s ≡ 3) → IsCode (byte bytes s 2) → Told (onward bytes s 2 3 s.first s.second (suc s.cores)) k (codes ++ byte bytes s 2 ∷ [])
-    told_core kind is =
-        let code = byte bytes s 2 in
-        let turn : byte bytes s 1 ≡ 1 + length codes = omega (arith, p.turn kind, told.cores) in
-        let inside : s.place + 3 ≤ length bytes = omega (arith, p.inside, (core_shape bytes s kind).long) in
-        record {
-          sound = told.sound;
-          straight = λ l. absurd (omega (arith, l));
-          bare = λ l. absurd (omega (arith, l));
-          earlier = told.earlier;
-          cores = omega (arith, told.cores, length_push codes code);
-          few = p.few kind;
-          each = λ c m. elim (Contains-push_cases codes code c m) [ inl h ↦ told.each c h | inr e ↦ subst IsCode e is ];
-          going = λ n.
-              told.going going
-              ∙ more_cores (handler_records k) (join_records k) (core_records 1 codes) (drop s.place bytes) (core_record (byte bytes s 1) code) (drop (s.place + 3) bytes)
-              (pair_there bytes s 3 kind inside) (core_records 1 (codes ++ code ∷ []))
-              (cores_push 1 codes code ∙ ap (λ c. core_records 1 codes ++ core_record c code) (sym turn));
-          ended = λ e. absurd (omega (arith, e));
-        }
+        core : kind_here bytes s ≡ 3 → Told bytes small (past bytes s) next more
+        core e =
+            let code = byte bytes s 2 in
+            let t = onward bytes s 2 3 s.first s.second (suc s.cores) in
+            let shape = core_shape bytes s e in
+            let m = enters_as 2 (CoreRecord (byte bytes s 1) code) t shape in
+            moved t k (codes ++ code ∷ []) shape.after m.1 m.0.1 (told_core bytes small s k codes told going p e m.0.0)
 
-    told_end : (kind_here bytes s ≡ 4) → Told (onward bytes s 0 4 s.first s.second s.cores) k codes
-    told_end kind =
-        let inside : s.place + 1 ≤ length bytes = omega (arith, p.inside, (end_shape bytes s kind).long) in
-        record {
-          sound = told.sound;
-          straight = λ l. absurd (omega (arith, l));
-          bare = λ l. absurd (omega (arith, l));
-          earlier = told.earlier;
-          cores = told.cores;
-          few = told.few;
-          each = told.each;
-          going = λ n. absurd (n refl);
-          ended = λ e. (p.all kind, told.going going ∙ ap (λ l. handler_records k ++ (join_records k ++ (core_records 1 codes ++ l))) (end_there bytes s kind inside));
-        }
+        end : kind_here bytes s ≡ 4 → Told bytes small (past bytes s) next more
+        end e =
+            let t = onward bytes s 0 4 s.first s.second s.cores in
+            let shape = end_shape bytes s e in
+            let m = enters_as 0 End t shape in
+            moved t k codes shape.after m.1 m.2 (told_end bytes small s k codes told going p e)
+
+  told : {s : Standing} {k : Contents} {codes : List ℕ} → Reached bytes s k codes → Told bytes small s k codes
+  told none = told_first bytes small
+  told (one_more {s} {k} {next} {codes} {more} r before going is enters) = told_next s k next codes more r (told before) going is enters
+
+  file_is_written : (k : Contents) (codes : List ℕ) → IsFile bytes k codes → Sound k × AreCodes codes × (bytes ≡ file_of k codes)
+  file_is_written k codes f =
+      let all = told f.reached in
+      let last = all.ended f.ended in
+      let nothing : drop f.stands.place bytes ≡ [] = drop_all f.stands.place bytes (omega (arith, f.whole)) in (
+        all.sound,
+        record { eight = omega (arith, all.cores, all.few, last.0); each = all.each },
+        last.1 ∙ ap (λ l. handler_records k ++ (join_records k ++ (core_records 1 codes ++ 4 ∷ l))) nothing ∙ sym (parts (handler_records k) (join_records k) (core_records 1 codes) (4 ∷ [])),
+      )
+
+pub files_are_written : FilesAreWritten
+files_are_written bytes small k codes =
+    (file_is_written bytes small k codes, λ w. subst (λ l. IsFile l k codes) (sym w.2) (written_is_read k codes w.0 w.1))

@@ -9,4 +9,5 @@ pub mod FiledJoins
 pub mod FiledRead
 pub mod FiledBytes
 pub mod FiledMore
+pub mod FiledTold
 pub mod FiledWritten

@@ -1,14 +1,12 @@
 -- Every file is read in one way: two readings of the same bytes that can go no further are one.
-use Rattle.std.proofs.Common.{◌≡◌, ℕ, suc, ◌<◌, ◌≤◌, ◌⊎◌, List, length, Ok, Err, Result, is_ok, sym, refl, ap, ◌∙◌, subst, inl, inr, true≢false, arith}
+use Rattle.std.proofs.Common.{◌≡◌, ℕ, suc, ◌<◌, ◌≤◌, List, length, Ok, Err, is_ok, sym, refl, ap, ◌∙◌, subst, inl, inr, true≢false, arith}
 use Rattle.std.proofs.lemmas.Bool.{cases_eq, cases_lt}
 use Rattle.plan.specs.Contents.{Contents}
-use Rattle.plan.proofs.Answered.{one_answer_each}
 use Rattle.planfile.specs.declared.faults.Cause.{Cause}
 use Rattle.planfile.specs.declared.faults.Flaw.TheVariants.{OutOfOrder}
 use Rattle.planfile.specs.declared.faults.Fault.{Fault}
 use Rattle.planfile.specs.declared.records.Record.{Record}
-use Rattle.planfile.specs.declared.records.Record.TheVariants.{Handler as HandlerRecord, Join as JoinRecord, Core as CoreRecord, End}
-use Rattle.planfile.specs.Tests.{Standing, past, flaw, record_here, NextIs, of_plan, CodeEnters, Enters}
+use Rattle.planfile.specs.Tests.{Standing, past, flaw, NextIs, Enters}
 use Rattle.planfile.specs.Reads.{Reached, none, one_more, IsFile, IsRefused}
 use Rattle.planfile.specs.Theorems.{EveryFileIsReadOnce}
 use Rattle.planfile.proofs.FiledEntries.{next_one, ok_one, err_one, enters_one}
