@@ -26,7 +26,8 @@ pub err_one : {A E : Type 0} (x y : E) → ◌≡◌ {A = Result A E} (Err y) (E
 err_one {A} {E} x y e = ap (λ (r : Result A E). elim r [ Ok a ↦ x | Err f ↦ f ]) e
 
 -- what entering answers, and the plan and the codes after it, are one
-code_one : (codes : List ℕ) (c : ℕ) (r s : Result (Unit {0}) Cause) (more others : List ℕ) → CodeEnters codes c r more → CodeEnters codes c s others → (s ≡ r) × (others ≡ more)
+code_one : (codes : List ℕ) (c : ℕ) (r s : Result (Unit {0}) Cause) (more others : List ℕ) → CodeEnters codes c r more → CodeEnters codes c s others
+    → (s ≡ r) × (others ≡ more)
 code_one codes c (Ok x) (Ok y) more others m n = (refl, n.1 ∙ sym m.1)
 code_one codes c (Ok x) (Err f) more others m n = absurd (n.0 m.0)
 code_one codes c (Err e) (Ok y) more others m n = absurd (m.0 n.0)

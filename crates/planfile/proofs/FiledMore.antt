@@ -1,5 +1,5 @@
 -- What a file holds of a plan with one handler, one join or one code more.
-use Rattle.std.proofs.Common.{◌≡◌, ℕ, zero, suc, ◌+◌, ◌-◌, ◌<◌, ◌≤◌, Bool, true, false, cond, ◌&&◌, ◌⊎◌, List, [], ◌∷◌, ◌++◌, length, sym, refl, ap, ap₂, ◌∙◌, inl, inr, arith}
+use Rattle.std.proofs.Common.{◌≡◌, ℕ, zero, suc, ◌+◌, ◌-◌, ◌<◌, ◌≤◌, Bool, true, false, cond, ◌&&◌, List, [], ◌∷◌, ◌++◌, length, sym, refl, ap, ap₂, ◌∙◌, inl, inr, arith}
 use Rattle.std.specs.Prelude.{◌==◌}
 use Rattle.std.specs.List.{flat_map, range_with_len}
 use Rattle.std.proofs.lemmas.Bool.{cases_eq, eq-eqb, eqb-true, or_cases, or_left, or_right, and_parts, and_from}
@@ -9,6 +9,7 @@ use Rattle.terms.specs.declared.handlers.Handler.{Handler}
 use Rattle.plan.specs.Contents.{Contents, count, Known}
 use Rattle.plan.specs.Calls.{added, with_join}
 use Rattle.planfile.specs.Files.{handler_record, join_record, core_record, handler_records, record_if_joined, joins_from, join_records, core_records}
+use Rattle.planfile.proofs.FiledRecords.{Sooner}
 use Rattle.planfile.proofs.FiledTurns.{joins_is, both_or_none}
 
 pub handlers_push : (k : Contents) (h : Handler) → handler_records (added k h) ≡ handler_records k ++ handler_record h
@@ -38,7 +39,8 @@ module _ (f g : ℕ → List ℕ) where
     none : (x : ℕ) → c < x → f x ≡ []
     still : (x : ℕ) → c < x → g x ≡ []
 
-  flat_grows : (c : ℕ) (more : List ℕ) → Grows c more → (n a : ℕ) → 1 ≤ a → a ≤ c → c < a + n → flat_map g (range_with_len a n) ≡ flat_map f (range_with_len a n) ++ more
+  flat_grows : (c : ℕ) (more : List ℕ) → Grows c more → (n a : ℕ) → 1 ≤ a → a ≤ c → c < a + n
+      → flat_map g (range_with_len a n) ≡ flat_map f (range_with_len a n) ++ more
   flat_grows c more grows zero a la le lt = absurd (omega (arith, le, lt))
   flat_grows c more grows (suc n) a la le lt =
       elim (cases_eq a c) [
@@ -54,11 +56,14 @@ module _ (f g : ℕ → List ℕ) where
 -- ---- joins
 
 pub no_joins : (k : Contents) → ((x y : ℕ) → k.joined x y ≡ false) → join_records k ≡ []
-no_joins k none = flat_none (joins_from k) (count k) 1 (λ a la. flat_none (record_if_joined k a) (count k) 1 (λ b lb. ap (λ t. cond t (join_record a b) []) (joins_is k a b la lb ∙ none (a - 1) (b - 1))))
+no_joins k none = flat_none (joins_from k) (count k) 1 (λ a la. flat_none (record_if_joined k a) (count k) 1 (λ b lb. cell a b la lb))
+  where
+    cell : (a b : ℕ) → 1 ≤ a → 1 ≤ b → record_if_joined k a b ≡ []
+    cell a b la lb = ap (λ t. cond t (join_record a b) []) (joins_is k a b la lb ∙ none (a - 1) (b - 1))
 
 -- the join of a before b comes after all joins of k
 abbrev pub Last : Contents → ℕ → ℕ → Type 0
-Last k a b = (x y : ℕ) → k.joined x y ≡ true → (suc x < a) ⊎ ((suc x ≡ a) × (suc y < b))
+Last k a b = (x y : ℕ) → k.joined x y ≡ true → Sooner (suc x) (suc y) a b
 
 module _ (k : Contents) (a b : ℕ) (la : 1 ≤ a) (lb : 1 ≤ b) (last : Last k a b) where
   abbrev next : Contents
@@ -70,7 +75,7 @@ module _ (k : Contents) (a b : ℕ) (la : 1 ≤ a) (lb : 1 ≤ b) (last : Last k
 
     -- no other numbers are joined anew
     other : ¬ ((x ≡ a) × (y ≡ b)) → record_if_joined next x y ≡ record_if_joined k x y
-    other ne = ap (λ t. cond t (join_record x y) []) (joins_is next x y lx ly ∙ both_or_none (next.joined (x - 1) (y - 1)) (k.joined (x - 1) (y - 1)) old (or_left (k.joined (x - 1) (y - 1)) is_new) ∙ sym (joins_is k x y lx ly))
+    other ne = ap (λ t. cond t (join_record x y) []) (joins_is next x y lx ly ∙ same ∙ sym (joins_is k x y lx ly))
       where
         old : next.joined (x - 1) (y - 1) ≡ true → k.joined (x - 1) (y - 1) ≡ true
         old j =
@@ -83,11 +88,14 @@ module _ (k : Contents) (a b : ℕ) (la : 1 ≤ a) (lb : 1 ≤ b) (last : Last k
                   absurd (ne (omega (arith, ex, lx), omega (arith, ey, ly))))
             ]
 
+        same : next.joined (x - 1) (y - 1) ≡ k.joined (x - 1) (y - 1)
+        same = both_or_none (next.joined (x - 1) (y - 1)) (k.joined (x - 1) (y - 1)) old (or_left (k.joined (x - 1) (y - 1)) is_new)
+
     -- numbers that do not come before a and b are not joined yet
-    none_yet : ¬ ((x < a) ⊎ ((x ≡ a) × (y < b))) → record_if_joined k x y ≡ []
+    none_yet : ¬ Sooner x y a b → record_if_joined k x y ≡ []
     none_yet not = ap (λ t. cond t (join_record x y) []) (joins_is k x y lx ly ∙ no (k.joined (x - 1) (y - 1)) refl)
       where
-        early : (suc (x - 1) < a) ⊎ ((suc (x - 1) ≡ a) × (suc (y - 1) < b)) → (x < a) ⊎ ((x ≡ a) × (y < b))
+        early : Sooner (suc (x - 1)) (suc (y - 1)) a b → Sooner x y a b
         early (inl l) = inl (omega (arith, l, lx))
         early (inr q) = inr (omega (arith, q.0, lx), omega (arith, q.1, ly))
 

@@ -6,7 +6,7 @@ use Rattle.planfile.specs.Tests.{outset}
 use Rattle.planfile.specs.Reads.{none}
 use Rattle.planfile.specs.Theorems.{WrittenIsRead}
 use Rattle.planfile.proofs.FiledSteps.{Left}
-use Rattle.planfile.proofs.FiledHandlers.{alone, handlers_read}
+use Rattle.planfile.proofs.FiledHandlers.{alone, Fresh, handlers_read}
 use Rattle.planfile.proofs.FiledJoins.{joins_read}
 use Rattle.planfile.proofs.FiledCores.{cores_read}
 
@@ -20,7 +20,8 @@ written_is_read k codes sound are =
     let cores = core_records 1 codes ++ 4 ∷ [] in
     let begun : Left bytes outset (alone []) [] (handler_records k ++ (join_records k ++ cores)) =
     record { reached = none; rest = parts (handler_records k) (join_records k) (core_records 1 codes) (4 ∷ []) } in
-    let handled = handlers_read k sound bytes k.handlers [] (join_records k ++ cores) outset refl (record { kind = omega arith; first = refl; second = refl; cores = refl }) begun in
+    let fresh : Fresh outset = record { kind = omega arith; first = refl; second = refl; cores = refl } in
+    let handled = handlers_read k sound bytes k.handlers [] (join_records k ++ cores) outset refl fresh begun in
     let joined = joins_read k sound bytes cores handled in
     cores_read bytes k codes [] joined.stands (omega (arith, joined.kind)) (omega (arith, joined.cores, are.eight)) are.each
     (subst (λ n. Left bytes joined.stands k [] (core_records (suc n) codes ++ 4 ∷ [])) (sym joined.cores) joined.now)

@@ -11,6 +11,10 @@ use Rattle.planfile.specs.Tests.{Standing, byte, kind_here, body, handler_here, 
 pub byte_of : (bytes : List ℕ) (s : Standing) (left : List ℕ) → drop s.place bytes ≡ left → (i : ℕ) → byte bytes s i ≡ slice_index left i
 byte_of bytes s left e i = sym (get_or-drop s.place bytes i 0) ∙ ap (λ l. slice_index l i) e
 
+-- the numbers a and b come before c and d: the first decides, and then the second
+abbrev pub Sooner : ℕ → ℕ → ℕ → ℕ → Type 0
+Sooner a b c d = (a < c) ⊎ ((a ≡ c) × (b < d))
+
 module _ (bytes : List ℕ) (s : Standing) where
   -- ---- the tests
 
@@ -22,7 +26,7 @@ module _ (bytes : List ℕ) (s : Standing) where
     pub few : kind_here bytes s ≡ 3 → s.cores < 8
     pub all : kind_here bytes s ≡ 4 → 8 ≤ s.cores
     pub inside : s.place + suc (body bytes s) ≤ length bytes
-    pub later : kind_here bytes s ≡ 2 → (s.first < byte bytes s 1) ⊎ ((s.first ≡ byte bytes s 1) × (s.second < byte bytes s 2))
+    pub later : kind_here bytes s ≡ 2 → Sooner s.first s.second (byte bytes s 1) (byte bytes s 2)
     pub turn : kind_here bytes s ≡ 3 → byte bytes s 1 ≡ suc s.cores
 
   not_below : (x y : ℕ) → ¬ (x < y) → y ≤ x
@@ -48,7 +52,7 @@ module _ (bytes : List ℕ) (s : Standing) where
       body_misplaced : ¬ BodyMisplaced bytes s
       body_misplaced (inl q) = apart (p.later q.0) q.1
         where
-          apart : (s.first < byte bytes s 1) ⊎ ((s.first ≡ byte bytes s 1) × (s.second < byte bytes s 2))
+          apart : Sooner s.first s.second (byte bytes s 1) (byte bytes s 2)
               → (byte bytes s 1 < s.first) ⊎ ((byte bytes s 1 ≡ s.first) × (byte bytes s 2 ≤ s.second)) → ⊥
           apart (inl l) (inl m) = omega (arith, l, m)
           apart (inl l) (inr m) = omega (arith, l, m.0)
@@ -79,7 +83,7 @@ module _ (bytes : List ℕ) (s : Standing) where
       }
     where
       later : ¬ ((byte bytes s 1 < s.first) ⊎ ((byte bytes s 1 ≡ s.first) × (byte bytes s 2 ≤ s.second)))
-          → (s.first < byte bytes s 1) ⊎ ((s.first ≡ byte bytes s 1) × (s.second < byte bytes s 2))
+          → Sooner s.first s.second (byte bytes s 1) (byte bytes s 2)
       later not =
           elim (cases_lt s.first (byte bytes s 1)) [
             | inl l ↦ inl l

@@ -10,7 +10,7 @@ use Rattle.planfile.specs.declared.records.Record.TheVariants.{Handler as Handle
 use Rattle.planfile.specs.Files.{handler_record, join_record, core_record}
 use Rattle.planfile.specs.Tests.{Standing, byte, word, kind_here, handler_here, record_here, IsCode, Enters}
 use Rattle.planfile.specs.Reads.{Reached, one_more}
-use Rattle.planfile.proofs.FiledRecords.{byte_of, Passes, past_all, Shape, onward, handler_shape, join_shape, core_shape, end_shape}
+use Rattle.planfile.proofs.FiledRecords.{byte_of, Sooner, Passes, past_all, Shape, onward, handler_shape, join_shape, core_shape, end_shape}
 
 -- ---- calls that no test refuses
 
@@ -54,20 +54,22 @@ module _ (bytes : List ℕ) where
   enough s left n e l = omega (arith, length-drop s.place bytes, ap length e, l)
 
   -- the record that stands there is read, and enters
-  read_on : (s t : Standing) (k next : Contents) (codes more : List ℕ) (n : ℕ) (r : Record) → Reached bytes s k codes → ¬ (s.kind ≡ 4) → Passes bytes s → Shape bytes s n r t
-      → Enters k codes r (Ok tt) next more → Reached bytes t next more
+  read_on : (s t : Standing) (k next : Contents) (codes more : List ℕ) (n : ℕ) (r : Record) → Reached bytes s k codes → ¬ (s.kind ≡ 4)
+      → Passes bytes s → Shape bytes s n r t → Enters k codes r (Ok tt) next more → Reached bytes t next more
   read_on s t k next codes more n r reached going p shape enters =
       subst (λ u. Reached bytes u next more) shape.after
       (one_more (record_here bytes s) reached going (past_all bytes s p) (subst (λ x. Enters k codes x (Ok tt) next more) (sym shape.entry) enters))
 
   module _ (s : Standing) (k : Contents) (codes rest : List ℕ) where
-    pub handler_read : (h : Handler) → Left s k codes (handler_record h ++ rest) → s.kind ≤ 1 → Takes k h → Left (onward bytes s 9 1 s.first s.second s.cores) (added k h) codes rest
+    pub handler_read : (h : Handler) → Left s k codes (handler_record h ++ rest) → s.kind ≤ 1 → Takes k h
+        → Left (onward bytes s 9 1 s.first s.second s.cores) (added k h) codes rest
     handler_read h l low takes =
         let left = handler_record h ++ rest in
         let b = byte_of bytes s left l.rest in
         let kind : kind_here bytes s ≡ 1 = b 0 in
         let shape = handler_shape bytes s kind in
-        let word_is : (i n : ℕ) → byte bytes s i ≡ n / 256 → byte bytes s (suc i) ≡ n % 256 → word bytes s i ≡ n = λ i n x y. ap₂ (λ u v. 256 * u + v) x y ∙ div-add-mod n 256 in
+        let word_is : (i n : ℕ) → byte bytes s i ≡ n / 256 → byte bytes s (suc i) ≡ n % 256 → word bytes s i ≡ n =
+        λ i n x y. ap₂ (λ u v. 256 * u + v) x y ∙ div-add-mod n 256 in
         let same : handler_here bytes s ≡ h =
         rw (word_is 1 h.period (b 1) (b 2), word_is 3 h.offset (b 3) (b 4), word_is 5 h.shortest (b 5) (b 6), word_is 7 h.longest (b 7) (b 8), b 9) refl in
         record {
@@ -87,11 +89,8 @@ module _ (bytes : List ℕ) where
           rest = behind s left 9 l.rest;
         }
 
-    -- the join comes later than the last one
-    abbrev pub Later : ℕ → ℕ → Type 0
-    Later a b = (s.first < a) ⊎ ((s.first ≡ a) × (s.second < b))
-
-    pub join_read : (a b : ℕ) → Left s k codes (join_record a b ++ rest) → s.kind ≤ 2 → Later a b → MayJoin k a b → Left (onward bytes s 2 2 a b s.cores) (with_join k a b) codes rest
+    pub join_read : (a b : ℕ) → Left s k codes (join_record a b ++ rest) → s.kind ≤ 2 → Sooner s.first s.second a b → MayJoin k a b
+        → Left (onward bytes s 2 2 a b s.cores) (with_join k a b) codes rest
     join_read a b l low later may =
         let left = join_record a b ++ rest in
         let at = byte_of bytes s left l.rest in

@@ -1,5 +1,5 @@
 -- What the records that are read so far tell of the bytes.
-use Rattle.std.proofs.Common.{◌≡◌, ℕ, suc, ◌+◌, ◌<◌, ◌≤◌, true, false, ◌&&◌, ◌⊎◌, List, [], ◌∷◌, ◌++◌, length, drop, Ok, Err, Result, is_ok, sym, refl, ap, ◌∙◌, subst, inl, inr, true≢false, arith}
+use Rattle.std.proofs.Common.{◌≡◌, ℕ, suc, ◌+◌, ◌≤◌, true, false, ◌&&◌, List, [], ◌∷◌, ◌++◌, length, drop, Ok, Err, Result, is_ok, sym, refl, ap, ◌∙◌, subst, inl, inr, true≢false, arith}
 use Rattle.std.specs.Prelude.{◌==◌}
 use Rattle.std.specs.List.{Contains as Has}
 use Rattle.std.proofs.lemmas.Bool.{eqb-true, or_cases, and_parts}
@@ -15,9 +15,9 @@ use Rattle.laws.proofs.Sounds.{may_take, may_join, after_sound}
 use Rattle.planfile.specs.Files.{handler_record, join_record, core_record, handler_records, join_records, core_records}
 use Rattle.planfile.specs.Tests.{Standing, outset, byte, kind_here, handler_here, of_plan, IsCode}
 use Rattle.planfile.specs.Theorems.{AreBytes}
-use Rattle.planfile.proofs.FiledRecords.{Passes, onward, handler_shape, join_shape, core_shape, end_shape}
+use Rattle.planfile.proofs.FiledRecords.{Sooner, Passes, onward, handler_shape, join_shape, core_shape, end_shape}
 use Rattle.planfile.proofs.FiledBytes.{handler_there, pair_there, end_there}
-use Rattle.planfile.proofs.FiledMore.{handlers_push, joins_push, cores_push, no_joins}
+use Rattle.planfile.proofs.FiledMore.{Last, handlers_push, joins_push, cores_push, no_joins}
 
 -- ---- what is accepted
 
@@ -28,6 +28,13 @@ taken k next h (Err f) m e = absurd (true≢false (ap is_ok e))
 pub joined : (k next : Contents) (a b : ℕ) (q : Result (Unit {0}) Refusal) → Joins k a b q next → Ok tt ≡ of_plan q → MayJoin k a b × (next ≡ with_join k a b)
 joined k next a b (Ok u) m e = (may_join k next a b u m, m.leaves)
 joined k next a b (Err f) m e = absurd (true≢false (ap is_ok e))
+
+-- numbers up to c and d come before all that c and d come before
+sooner_on : (a b c d e f : ℕ) → Sooner a b c (suc d) → Sooner c d e f → Sooner a b e f
+sooner_on a b c d e f (inl l) (inl m) = inl (omega (arith, l, m))
+sooner_on a b c d e f (inl l) (inr m) = inl (omega (arith, l, m.0))
+sooner_on a b c d e f (inr l) (inl m) = inl (omega (arith, l.0, m))
+sooner_on a b c d e f (inr l) (inr m) = inr (omega (arith, l.0, m.0), omega (arith, l.1, m.1))
 
 -- ---- one record more in a list of records
 
@@ -51,7 +58,7 @@ module _ (bytes : List ℕ) (small : AreBytes bytes) where
     pub sound : Sound k
     pub straight : s.kind ≤ 1 → (x y : ℕ) → k.joined x y ≡ false
     pub bare : s.kind ≤ 2 → codes ≡ []
-    pub earlier : (x y : ℕ) → k.joined x y ≡ true → (suc x < s.first) ⊎ ((suc x ≡ s.first) × (suc y ≤ s.second))
+    pub earlier : (x y : ℕ) → k.joined x y ≡ true → Sooner (suc x) (suc y) s.first (suc s.second)
     pub cores : s.cores ≡ length codes
     pub few : s.cores ≤ 8
     pub each : (c : ℕ) → Has codes c → IsCode c
@@ -118,18 +125,10 @@ module _ (bytes : List ℕ) (small : AreBytes bytes) where
           ended = λ e. absurd (omega (arith, e));
         }
       where
-        last : (x y : ℕ) → k.joined x y ≡ true → (suc x < byte bytes s 1) ⊎ ((suc x ≡ byte bytes s 1) × (suc y < byte bytes s 2))
-        last x y j = after (told.earlier x y j) (p.later kind)
-          where
-            after : (suc x < s.first) ⊎ ((suc x ≡ s.first) × (suc y ≤ s.second)) → (s.first < byte bytes s 1) ⊎ ((s.first ≡ byte bytes s 1) × (s.second < byte bytes s 2))
-                → (suc x < byte bytes s 1) ⊎ ((suc x ≡ byte bytes s 1) × (suc y < byte bytes s 2))
-            after (inl l) (inl m) = inl (omega (arith, l, m))
-            after (inl l) (inr m) = inl (omega (arith, l, m.0))
-            after (inr l) (inl m) = inl (omega (arith, l.0, m))
-            after (inr l) (inr m) = inr (omega (arith, l.0, m.0), omega (arith, l.1, m.1))
+        last : Last k (byte bytes s 1) (byte bytes s 2)
+        last x y j = sooner_on (suc x) (suc y) s.first s.second (byte bytes s 1) (byte bytes s 2) (told.earlier x y j) (p.later kind)
 
-        earlier : (x y : ℕ) → (with_join k (byte bytes s 1) (byte bytes s 2)).joined x y ≡ true
-            → (suc x < byte bytes s 1) ⊎ ((suc x ≡ byte bytes s 1) × (suc y ≤ byte bytes s 2))
+        earlier : (x y : ℕ) → (with_join k (byte bytes s 1) (byte bytes s 2)).joined x y ≡ true → Sooner (suc x) (suc y) (byte bytes s 1) (suc (byte bytes s 2))
         earlier x y j =
             elim (or_cases (k.joined x y) (suc x == byte bytes s 1 && suc y == byte bytes s 2) j) [
               | inl h ↦ (elim (last x y h) [ inl l ↦ inl l | inr q ↦ inr (q.0, omega (arith, q.1)) ])

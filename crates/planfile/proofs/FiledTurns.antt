@@ -1,5 +1,5 @@
 -- The joins of a plan have their turns in a file, and the record of the join whose turn it is is read.
-use Rattle.std.proofs.Common.{◌≡◌, ℕ, suc, ◌+◌, ◌-◌, ◌*◌, ◌<◌, ◌≤◌, Bool, true, false, ◌&&◌, ◌⊎◌, List, [], ◌++◌, sym, refl, ap₂, subst, inl, inr, arith}
+use Rattle.std.proofs.Common.{◌≡◌, ℕ, suc, ◌+◌, ◌-◌, ◌*◌, ◌<◌, ◌≤◌, Bool, true, false, ◌&&◌, List, [], ◌++◌, sym, refl, ap₂, subst, inl, inr, arith}
 use Rattle.std.specs.Prelude.{◌==◌}
 use Rattle.std.proofs.lemmas.Bool.{cases_lt, le-leb, eqb-true, eq-eqb, or_cases, or_left, or_right, and_parts, and_from}
 use Rattle.terms.specs.declared.handlers.Handler.{Handler}
@@ -8,7 +8,7 @@ use Rattle.plan.specs.Contents.{Contents, count, at, joins, Sound}
 use Rattle.plan.specs.Calls.{with_join, ClosesCircle, MayJoin}
 use Rattle.planfile.specs.Files.{join_record}
 use Rattle.planfile.specs.Tests.{Standing}
-use Rattle.planfile.proofs.FiledRecords.{onward}
+use Rattle.planfile.proofs.FiledRecords.{Sooner, onward}
 use Rattle.planfile.proofs.FiledSteps.{Left, join_read}
 
 -- whether numbers are joined, by places
@@ -43,6 +43,7 @@ module _ (k : Contents) (sound : Sound k) where
     pub last : turn s.first s.second < m
     pub cores : s.cores ≡ 0
 
+  -- the reader has come to the turn m, and this is left of the bytes
   pub record Joined (bytes : List ℕ) (m : ℕ) (left : List ℕ) : Type 0 where
     pub stands : Standing
     pub contents : Contents
@@ -54,16 +55,19 @@ module _ (k : Contents) (sound : Sound k) where
   pub low : (x y : ℕ) → k.joined x y ≡ true → (suc x ≤ count k) × (suc y ≤ count k) × (count k ≤ 64)
   low x y j = let q = sound.inside x y j in (q.0, q.1, sound.few)
 
-  -- a turn at which nothing is joined passes by
-  skip : (m n : ℕ) (l : Contents) → m ≤ n → ((x y : ℕ) → k.joined x y ≡ true → m ≤ turn (suc x) (suc y) → n ≤ turn (suc x) (suc y)) → Upto m l → Upto n l
+  -- no join has its turn from m on and before n
+  abbrev pub NoTurn : ℕ → ℕ → Type 0
+  NoTurn m n = (x y : ℕ) → k.joined x y ≡ true → m ≤ turn (suc x) (suc y) → n ≤ turn (suc x) (suc y)
+
+  skip : (m n : ℕ) (l : Contents) → m ≤ n → NoTurn m n → Upto m l → Upto n l
   skip m n l le none u = record {
     handlers = u.handlers;
     only = λ x y j. let q = u.only x y j in (q.0, omega (arith, q.1, le));
     each = λ x y j lt. elim (cases_lt (turn (suc x) (suc y)) m) [ inl e ↦ u.each x y j e | inr g ↦ absurd (omega (arith, none x y j g, lt)) ];
   }
 
-  pub skipped : (bytes : List ℕ) (m n : ℕ) (left : List ℕ) → m ≤ n → ((x y : ℕ) → k.joined x y ≡ true → m ≤ turn (suc x) (suc y) → n ≤ turn (suc x) (suc y)) → Joined bytes m left
-      → Joined bytes n left
+  -- such turns pass by
+  pub skipped : (bytes : List ℕ) (m n : ℕ) (left : List ℕ) → m ≤ n → NoTurn m n → Joined bytes m left → Joined bytes n left
   skipped bytes m n left le none p = record {
     stands = p.stands;
     contents = p.contents;
@@ -124,7 +128,7 @@ module _ (k : Contents) (sound : Sound k) where
                 | inr g ↦ or_right (l.joined x y) (suc x == a && suc y == b) (is_new x y (same_turn a b x y la lb high i (omega (arith, lt, g))))
               ]
 
-    later : (s : Standing) → Before (turn a b) s → (s.first < a) ⊎ ((s.first ≡ a) × (s.second < b))
+    later : (s : Standing) → Before (turn a b) s → Sooner s.first s.second a b
     later s p =
         elim (cases_lt s.first a) [
           | inl e ↦ inl e

@@ -25,7 +25,8 @@ module _ (bytes : List ℕ) (small : AreBytes bytes) where
     enters_as : (n : ℕ) (x : Record) (t : Standing) → Shape bytes s n x t → Enters k codes x (Ok tt) next more
     enters_as n x t shape = subst (λ y. Enters k codes y (Ok tt) next more) (ok_one (record_here bytes s) r (entry_is bytes s r is) ∙ shape.entry) enters
 
-    moved : (t : Standing) (l : Contents) (c : List ℕ) → past bytes s ≡ t → next ≡ l → more ≡ c → Told bytes small t l c → Told bytes small (past bytes s) next more
+    moved : (t : Standing) (l : Contents) (c : List ℕ) → past bytes s ≡ t → next ≡ l → more ≡ c → Told bytes small t l c
+        → Told bytes small (past bytes s) next more
     moved t l c et el ec x =
         subst (λ t. Told bytes small t next more) (sym et) (subst (λ l. Told bytes small t l more) (sym el) (subst (λ c. Told bytes small t l c) (sym ec) x))
 
@@ -80,12 +81,13 @@ module _ (bytes : List ℕ) (small : AreBytes bytes) where
 
   file_is_written : (k : Contents) (codes : List ℕ) → IsFile bytes k codes → Sound k × AreCodes codes × (bytes ≡ file_of k codes)
   file_is_written k codes f =
+      let head = λ (l : List ℕ). handler_records k ++ (join_records k ++ (core_records 1 codes ++ l)) in
       let all = told f.reached in
       let last = all.ended f.ended in
       let nothing : drop f.stands.place bytes ≡ [] = drop_all f.stands.place bytes (omega (arith, f.whole)) in (
         all.sound,
         record { eight = omega (arith, all.cores, all.few, last.0); each = all.each },
-        last.1 ∙ ap (λ l. handler_records k ++ (join_records k ++ (core_records 1 codes ++ 4 ∷ l))) nothing ∙ sym (parts (handler_records k) (join_records k) (core_records 1 codes) (4 ∷ [])),
+        last.1 ∙ ap (λ l. head (4 ∷ l)) nothing ∙ sym (parts (handler_records k) (join_records k) (core_records 1 codes) (4 ∷ [])),
       )
 
 pub files_are_written : FilesAreWritten

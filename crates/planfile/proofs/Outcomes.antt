@@ -89,8 +89,8 @@ module _ (bytes : List ℕ) where
               absurd (stops (subst (λ t. Goes t k codes) same.0 (subst (λ l. Goes b.stands l codes) same.1 (subst (λ c. Goes b.stands b.contents c) same.2 b.goes)))))
         ]
 
-  stops_same : {s s' : Standing} {k k' : Contents} {codes codes' : List ℕ} → Reached bytes s k codes → Reached bytes s' k' codes' → ¬ Goes s k codes → ¬ Goes s' k' codes'
-      → Same s k codes s' k' codes'
+  stops_same : {s s' : Standing} {k k' : Contents} {codes codes' : List ℕ} → Reached bytes s k codes → Reached bytes s' k' codes'
+      → ¬ Goes s k codes → ¬ Goes s' k' codes' → Same s k codes s' k' codes'
   stops_same x y a b = depth_same x y (omega (arith, not_shorter x y a, not_shorter y x b))
 
 -- ---- files
