@@ -20,6 +20,7 @@ use Rattle.laws.specs.Laws.{EachKind, SomeHistoryHasEachKind}
 use Rattle.laws.proofs.Answering.{tables, check_refused}
 use Rattle.laws.proofs.Computing.{lent, found}
 use Rattle.laws.proofs.Sounds.{makes_sound, after_sound}
+use Rattle.plan.proofs.Tested.{neither, taken_registers}
 
 -- ---- calls that lead on
 
@@ -64,21 +65,6 @@ linked = with_join pair 1 2
 
 -- ---- registers, joins and reseats
 
-right_core : (c : ℕ) → 1 ≤ c → c ≤ 8 → (c ≡ 0) ⊎ (8 < c) → ⊥
-right_core c low high (inl e) = omega (arith, e, low)
-right_core c low high (inr l) = omega (arith, l, high)
-
--- no test refuses a handler that the plan takes
-registers : (k : Contents) (h : Handler) → Takes k h → Registers k h (Ok (count k + 1)) (added k h)
-registers k h t = record {
-  answers = inr (λ l. omega (arith, l, t.room), inr (λ e. omega (arith, e, t.range.0), inr (times, inr (right_core h.core t.range.3 t.range.4, inr (λ l. omega (arith, l, t.short), refl)))));
-  leaves = refl;
-}
-  where
-    times : (h.shortest ≡ 0) ⊎ (h.longest < h.shortest) → ⊥
-    times (inl e) = omega (arith, e, t.range.1)
-    times (inr l) = omega (arith, l, t.range.2)
-
 takes_long : Takes empty long
 takes_long = record { room = omega arith; range = (omega arith, omega arith, omega arith, omega arith, omega arith); short = omega arith }
 
@@ -107,7 +93,7 @@ refuses_absent : Reseats single 2 2 (Err NoSuchHandler) single
 refuses_absent = record { answers = inl (λ q. omega (arith, q.1), refl); leaves = refl }
 
 reseats_long : Reseats single 1 2 (Ok tt) moved
-reseats_long = record { answers = inr (λ n. n (omega arith, omega arith), inr (right_core 2 (omega arith) (omega arith), refl)); leaves = refl }
+reseats_long = record { answers = inr (λ n. n (omega arith, omega arith), inr (neither (λ e. omega (arith, e)) (λ l. omega (arith, l)), refl)); leaves = refl }
 
 -- ---- checks
 
@@ -122,7 +108,7 @@ refused : Checks empty D uneven (Err UnfitTables) uneven
 refused = check_refused empty empty_sound D uneven (inl (λ e. omega (arith, e)))
 
 single_sound : Sound single
-single_sound = makes_sound empty single (changes (registered long (Ok 1))) (registers empty long takes_long) empty_sound
+single_sound = makes_sound empty single (changes (registered long (Ok 1))) (taken_registers empty long takes_long) empty_sound
 
 few_rows : (is : Tables) × Checks empty D (lent 0 1) (Ok (RowsShort Working 0)) is
 few_rows = found empty empty_sound all_fixed 0 1 (omega arith) (omega arith) (RowsShort Working 0) refl
@@ -165,12 +151,12 @@ events_lead =
     (call (law, few_marks.1, refl)
     (call (law, kept.1, refl)
     (call refuses_never
-    (call (registers empty long takes_long)
+    (call (taken_registers empty long takes_long)
     (call (law, missed.1, refl)
     (call refuses_circle
     (call refuses_absent
     (call reseats_long
-    (call (registers moved short takes_short)
+    (call (taken_registers moved short takes_short)
     (call joins_pair end)))))))))))
 
 history : History

@@ -10,7 +10,8 @@ use Rattle.model.proofs.Kept.{kept_is_never_late as never_late, kept_counts_all_
 use Rattle.laws.specs.Checks.{Tables, Checks, LeavesMarks}
 use Rattle.laws.specs.Histories.{checks, History, Among}
 use Rattle.laws.specs.Laws.{KeptIsNeverLate, MissedIsTheEarliest, MarksAreLeft}
-use Rattle.laws.proofs.Sounds.{passed, after_sound}
+use Rattle.plan.proofs.Tested.{passed}
+use Rattle.laws.proofs.Sounds.{after_sound}
 use Rattle.laws.proofs.Calls.{among_made}
 
 -- a check that answers a verdict answers the model's

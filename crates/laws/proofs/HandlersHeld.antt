@@ -9,7 +9,7 @@ use Rattle.plan.specs.Contents.{Contents, count, at, Known}
 use Rattle.plan.specs.Calls.{seated, Registers, Reseats}
 use Rattle.plan.specs.Histories.{registered, joined, reseated}
 use Rattle.laws.specs.Histories.{Event, changes, checks, Makes, After, new, then, registers, taken, but_core, Seats, LastCore}
-use Rattle.laws.proofs.Sounds.{passed, may_seat}
+use Rattle.plan.proofs.Tested.{passed, may_seat}
 use Rattle.laws.proofs.LastCores.{seats_last, stays_last}
 
 -- an accepted register answers one more than there were

@@ -6,7 +6,6 @@ pub mod Computing
 pub mod Example
 pub mod Findings
 pub mod HandlersHeld
-pub mod Keeping
 pub mod LastCores
 pub mod MarkRows
 pub mod Questions

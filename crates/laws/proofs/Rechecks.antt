@@ -7,14 +7,7 @@ use Rattle.plan.specs.Contents.{Contents, Sound}
 use Rattle.model.specs.declared.verdicts.Verdict.{Verdict}
 use Rattle.model.proofs.Unique.{verdict_one}
 use Rattle.laws.specs.Checks.{Tables, Unfit, Judges, Checks}
-
--- two answers by the same test, where those past the test are one
-one_answer : {A P Q Q' : Type 0} {r s : Result A Refusal} {why : Refusal} → (Q → Q' → r ≡ s)
-    → (P × (r ≡ Err why)) ⊎ ((P → ⊥) × Q) → (P × (s ≡ Err why)) ⊎ ((P → ⊥) × Q') → r ≡ s
-one_answer go (inl x) (inl y) = x.1 ∙ sym y.1
-one_answer go (inl x) (inr y) = absurd (y.0 x.0)
-one_answer go (inr x) (inl y) = absurd (x.0 y.0)
-one_answer go (inr x) (inr y) = go x.1 y.1
+use Rattle.plan.proofs.Answered.{one_answer}
 
 module _ (k : Contents) (ok : Sound k) (D : Choice) (was is other left : Tables) (r s : Result Verdict Refusal)
     (front : length was.front ≡ length other.front) (back : length was.back ≡ length other.back) (marks : length was.marks ≡ length other.marks) where
@@ -27,4 +20,4 @@ module _ (k : Contents) (ok : Sound k) (D : Choice) (was is other left : Tables)
   fit_one = rw (front, back, marks) refl
 
   pub checks_one : Checks k D was r is → Checks k D other s left → r ≡ s
-  checks_one x y = one_answer judges_one x.answers (subst (λ P. (P × (s ≡ Err UnfitTables)) ⊎ ((P → ⊥) × Judges k D other s)) fit_one y.answers)
+  checks_one x y = sym (one_answer (λ a b. sym (judges_one a b)) x.answers (subst (λ P. (P × (s ≡ Err UnfitTables)) ⊎ ((P → ⊥) × Judges k D other s)) fit_one y.answers))

@@ -11,67 +11,9 @@ use Rattle.plan.specs.Calls.{added, Takes, MayJoin, MaySeat, Registers, Joins, R
 use Rattle.plan.specs.Histories.{Call, registered, joined, reseated as seats}
 use Rattle.plan.specs.Histories.{Makes as Changes}
 use Rattle.plan.proofs.Answered.{one_answer_each}
+use Rattle.plan.proofs.Keeping.{added_sound, join_sound, seat_sound}
+use Rattle.plan.proofs.Tested.{may_take, may_join, may_seat, empty_sound}
 use Rattle.laws.specs.Histories.{Event, changes, checks, Makes, After, new, then}
-use Rattle.laws.proofs.Keeping.{added_sound, join_sound, seat_sound}
-
--- ---- what is accepted was tested
-
--- a call that answers Ok has passed the test, and the rest of the tests let it through
-pub passed : {A P Q : Type 0} {x : A} {why : Refusal} → (P × (Ok x ≡ Err why)) ⊎ ((P → ⊥) × Q) → (P → ⊥) × Q
-passed (inl r) = absurd (true≢false (ap is_ok r.1))
-passed (inr r) = r
-
-above : (x y : ℕ) → ¬ (x < y) → y ≤ x
-above x y not = elim (cases_lt x y) [ inl l ↦ absurd (not l) | inr g ↦ g ]
-
-some : (x : ℕ) → ¬ (x ≡ 0) → 1 ≤ x
-some x not = above x 1 (λ l. not (omega arith))
-
-same : (x y : ℕ) → ¬ (x ≢ y) → x ≡ y
-same x y not = elim (cases_eq x y) [ inl e ↦ e | inr ne ↦ absurd (not ne) ]
-
-is_known : (k : Contents) (n : ℕ) → ¬ ¬ Known k n → Known k n
-is_known k n not = (above n 1 (λ l. not (λ q. omega (arith, l, q.0))), above (count k) n (λ l. not (λ q. omega (arith, l, q.1))))
-
--- the tests let these through
-module _ (k next : Contents) where
-  pub may_take : (h : Handler) (n : ℕ) → Registers k h (Ok n) next → Takes k h
-  may_take h n m =
-      let room = passed m.answers in
-      let period = passed room.1 in
-      let times = passed period.1 in
-      let core = passed times.1 in
-      let short = passed core.1 in
-      record {
-        room = omega (arith, above 63 (count k) (λ l. room.0 (omega (arith, l))));
-        range = (
-          some h.period period.0,
-          some h.shortest (λ e. times.0 (inl e)),
-          above h.longest h.shortest (λ l. times.0 (inr l)),
-          some h.core (λ e. core.0 (inl e)),
-          above 8 h.core (λ l. core.0 (inr l)),
-        );
-        short = above longest_round (round (added k h)) short.0;
-      }
-
-  pub may_join : (a b : ℕ) (u : Unit {0}) → Joins k a b (Ok u) next → MayJoin k a b
-  may_join a b u m =
-      let known = passed m.answers in
-      let timed = passed known.1 in
-      let straight = passed timed.1 in
-      record {
-        known_a = is_known k a (λ q. known.0 (inl q));
-        known_b = is_known k b (λ q. known.0 (inr q));
-        periods = same (at k (a - 1)).period (at k (b - 1)).period (λ ne. timed.0 (inl ne));
-        offsets = same (at k (a - 1)).offset (at k (b - 1)).offset (λ ne. timed.0 (inr ne));
-        straight = straight.0;
-      }
-
-  pub may_seat : (n c : ℕ) (u : Unit {0}) → Reseats k n c (Ok u) next → MaySeat k n c
-  may_seat n c u m =
-      let known = passed m.answers in
-      let core = passed known.1 in
-      record { known = is_known k n known.0; low = some c (λ e. core.0 (inl e)); high = above 8 c (λ l. core.0 (inr l)) }
 
 -- ---- histories
 
@@ -86,21 +28,6 @@ change_sound k next (seats n c (Err e)) m s = subst Sound (sym m.leaves) s
 pub makes_sound : (k next : Contents) (event : Event) → Makes k event next → Sound k → Sound next
 makes_sound k next (changes call) m s = change_sound k next call m s
 makes_sound k next (checks D was r is) m s = subst Sound (sym m.2) s
-
-empty_sound : Sound empty
-empty_sound = record {
-  few = omega arith;
-  ranges = λ i l. absurd (omega arith);
-  short = omega arith;
-  inside = λ a b j. absurd (true≢false (sym j));
-  periods = λ a b j. absurd (true≢false (sym j));
-  offsets = λ a b j. absurd (true≢false (sym j));
-  no_circle = λ a c. no_chain c;
-}
-  where
-    no_chain : {a b : ℕ} → Chain empty.joined a b → ⊥
-    no_chain (one j) = true≢false (sym j)
-    no_chain (more j c) = no_chain c
 
 -- every history leaves contents that are sound
 pub after_sound : (events : List Event) (k : Contents) → After events k → Sound k

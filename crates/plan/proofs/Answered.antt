@@ -8,7 +8,7 @@ use Rattle.plan.specs.Contents.{Contents, contents, count, Known}
 use Rattle.plan.specs.Calls.{accepts, after, Agree, OneAnswer, Registers, Joins, Reseats, added, with_join, reseated, ClosesCircle}
 
 -- two answers by the same tests are one
-one_answer : {A P : Type 0} {Q Q' : Type 0} {r s : Result A Refusal} {why : Refusal} → (Q → Q' → s ≡ r)
+pub one_answer : {A E P Q Q' : Type 0} {r s : Result A E} {why : E} → (Q → Q' → s ≡ r)
     → (P × (r ≡ Err why)) ⊎ ((P → ⊥) × Q) → (P × (s ≡ Err why)) ⊎ ((P → ⊥) × Q') → s ≡ r
 one_answer go (inl x) (inl y) = y.1 ∙ sym x.1
 one_answer go (inl x) (inr y) = absurd (y.0 x.0)

@@ -6,3 +6,5 @@ pub mod Histories
 pub mod Kept
 pub mod Rounds
 pub mod Routes
+pub mod Keeping
+pub mod Tested

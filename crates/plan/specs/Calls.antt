@@ -9,7 +9,7 @@ use Rattle.plan.specs.Joins.{Chain}
 use Rattle.plan.specs.Contents.{Contents, count, at, Known, round}
 
 -- the call is refused for this where the test holds, and answers by the rest where it does not
-abbrev pub refuses : {A : Type 0} → Type 0 → Refusal → (Result A Refusal → Type 0) → Result A Refusal → Type 0
+abbrev pub refuses : {A E : Type 0} → Type 0 → E → (Result A E → Type 0) → Result A E → Type 0
 refuses test why rest r = (test × (r ≡ Err why)) ⊎ ((test → ⊥) × rest r)
 
 -- the call is accepted with this answer

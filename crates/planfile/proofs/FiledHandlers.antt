@@ -1,0 +1,63 @@
+-- The records of the handlers are read.
+use Rattle.std.proofs.Common.{◌≡◌, ℕ, ◌≤◌, false, List, [], ◌∷◌, ◌++◌, length, sym, ap, ◌∙◌, subst, arith}
+use Rattle.std.specs.List.{flat_map, Contains as Has}
+use Rattle.std.proofs.lemmas.List.{append_assoc, append-nil, length-append, get_or_default}
+use Rattle.std.proofs.lemmas.List.Elements.{Contains-append_left, Contains-append_right}
+use Rattle.gather.proofs.Counting.{has_here}
+use Rattle.terms.specs.declared.handlers.Handler.{Handler}
+use Rattle.plan.specs.Rows.{blank, IsInRange, round_of, longest_round}
+use Rattle.plan.specs.Contents.{Contents, Sound}
+use Rattle.plan.specs.Calls.{Takes}
+use Rattle.plan.proofs.Rounds.{Recurring, round_least}
+use Rattle.planfile.specs.Files.{handler_record}
+use Rattle.planfile.specs.Tests.{Standing}
+use Rattle.planfile.proofs.FiledRecords.{onward}
+use Rattle.planfile.proofs.FiledSteps.{Left, handler_read}
+
+-- these handlers, and no join
+abbrev pub alone : List Handler → Contents
+alone hs = record { handlers = hs; joined = λ a b. false }
+
+-- only handlers have come
+pub record Fresh (s : Standing) : Type 0 where
+  pub kind : s.kind ≤ 1
+  pub first : s.first ≡ 0
+  pub second : s.second ≡ 0
+  pub cores : s.cores ≡ 0
+
+-- so it is when all handlers of k have come, and this is left
+pub record Handled (bytes : List ℕ) (k : Contents) (left : List ℕ) : Type 0 where
+  pub stands : Standing
+  pub fresh : Fresh stands
+  pub now : Left bytes stands (alone k.handlers) [] left
+
+module _ (k : Contents) (sound : Sound k) where
+  in_range : (h : Handler) → Has k.handlers h → IsInRange h
+  in_range h m = subst IsInRange (get_or_default k.handlers m.0 blank h m.1 ∙ m.2) (sound.ranges m.0 m.1)
+
+  recurring : Recurring k.handlers
+  recurring h m = (in_range h m).0
+
+  -- fewer handlers have no longer round
+  shorter : (some : List Handler) → ((h : Handler) → Has some h → Has k.handlers h) → round_of some ≤ longest_round
+  shorter some among =
+      let whole = round_least k.handlers recurring in
+      let part = round_least some (λ h m. recurring h (among h m)) in
+      omega (arith, part.least (round_of k.handlers) whole.some (λ h m. whole.common h (among h m)), sound.short)
+
+  takes : (done todo : List Handler) (h : Handler) → k.handlers ≡ done ++ h ∷ todo → Takes (alone done) h
+  takes done todo h e =
+      let longer : k.handlers ≡ (done ++ h ∷ []) ++ todo = e ∙ sym (append_assoc done (h ∷ []) todo) in
+      record {
+        room = omega (arith, sound.few, ap length e, length-append done (h ∷ todo));
+        range = in_range h (subst (λ l. Has l h) (sym e) (Contains-append_right done (h ∷ todo) h (has_here h todo)));
+        short = shorter (done ++ h ∷ []) (λ x m. subst (λ l. Has l x) (sym longer) (Contains-append_left (done ++ h ∷ []) todo x m));
+      }
+
+  pub handlers_read : (bytes : List ℕ) (todo done : List Handler) (rest : List ℕ) (s : Standing) → k.handlers ≡ done ++ todo → Fresh s
+      → Left bytes s (alone done) [] (flat_map handler_record todo ++ rest) → Handled bytes k rest
+  handlers_read bytes [] done rest s e fresh l = record { stands = s; fresh = fresh; now = subst (λ hs. Left bytes s (alone hs) [] rest) (sym (e ∙ append-nil done)) l }
+  handlers_read bytes (h ∷ todo) done rest s e fresh l =
+      handlers_read bytes todo (done ++ h ∷ []) rest (onward bytes s 9 1 s.first s.second s.cores) (e ∙ sym (append_assoc done (h ∷ []) todo))
+      (record { kind = omega arith; first = fresh.first; second = fresh.second; cores = fresh.cores })
+      (handler_read bytes s (alone done) [] (flat_map handler_record todo ++ rest) h l fresh.kind (takes done todo h e))

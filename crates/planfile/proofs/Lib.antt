@@ -1,0 +1,13 @@
+pub mod FiledEntries
+pub mod Outcomes
+pub mod FiledRecords
+pub mod FiledSteps
+pub mod FiledHandlers
+pub mod FiledCores
+pub mod FiledTurns
+pub mod FiledJoins
+pub mod FiledRead
+pub mod FiledBytes
+pub mod FiledMore
+pub mod FiledTold
+pub mod FiledWritten

@@ -1,0 +1,30 @@
+-- Writing the file of a plan and the codes of its cores into a buffer.
+use Rattle.std.specs.Prelude.{◌≡◌, ℕ, ◌<◌, List, ◌++◌, length, drop, Ok, Err, Result}
+use Rattle.std.specs.List.{Contains as Has}
+use Rattle.plan.specs.Contents.{Contents}
+use Rattle.plan.specs.Calls.{refuses}
+use Rattle.planfile.specs.declared.faults.Flaw.{Flaw}
+use Rattle.planfile.specs.declared.faults.Flaw.TheVariants.{NoSuchCode, NoRoom}
+use Rattle.planfile.specs.Files.{file_of}
+use Rattle.planfile.specs.Tests.{IsCode}
+
+-- one of the codes is none
+abbrev pub HasNoCode : List ℕ → Type 0
+HasNoCode codes = (c : ℕ) × Has codes c × (¬ IsCode c)
+
+-- what is answered: the length of the file, or why it is not written
+abbrev pub write_tests : List ℕ → List ℕ → List ℕ → Result ℕ Flaw → Type 0
+write_tests file codes buffer =
+    refuses (HasNoCode codes) NoSuchCode
+    (refuses (length buffer < length file) NoRoom
+    (λ r. r ≡ Ok (length file)))
+
+-- what the buffer holds then: the file, and what stood behind it; or what it held
+abbrev pub written : {A E : Type 0} → List ℕ → List ℕ → Result A E → List ℕ
+written file was (Ok n) = file ++ drop (length file) was
+written file was (Err e) = was
+
+-- writing the file of a plan that holds k, with these codes, into a buffer answers r and leaves it so
+pub record Writes (k : Contents) (codes was : List ℕ) (r : Result ℕ Flaw) (is : List ℕ) : Type 0 where
+  pub answers : write_tests (file_of k codes) codes was r
+  pub leaves : is ≡ written (file_of k codes) was r

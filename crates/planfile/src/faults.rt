@@ -1,0 +1,47 @@
+// Why a file is not read or written.
+ghost use Rattle.std.specs.Prelude.{◌≡◌};
+ghost use Rattle.planfile.specs.Numbers.{flaw_number};
+
+use terms::refusals::Refusal;
+use thiserror::Error;
+
+/// What is wrong with a file, or with what is to be written.
+#[derive(Clone, Copy, PartialEq, Eq, Debug, Error)]
+pub enum Flaw {
+    #[error("the file ends inside a record, or before its end record")]
+    Cut = 10,
+    #[error("there is no such kind of record: kinds are 1 to 4")]
+    UnknownKind = 11,
+    #[error("the record does not stand in the order of a file")]
+    OutOfOrder = 12,
+    #[error("there is no such code: codes are 1, 2 and 3")]
+    NoSuchCode = 13,
+    #[error("the file is longer than the room for it")]
+    NoRoom = 14,
+}
+
+impl Flaw {
+    /// The flaw's number, 10 to 14.
+    pub fn number(self) -> u8
+        ensures { result ≡ flaw_number self }
+    {
+        self as u8
+    }
+}
+
+/// Whose test a file fails: the file's own, or one of the plan that it describes.
+#[derive(Clone, Copy, PartialEq, Eq, Debug, Error)]
+pub enum Cause {
+    #[error("{0}")]
+    File(Flaw),
+    #[error("{0}")]
+    Plan(Refusal),
+}
+
+/// Why a file is refused, and at which record: the place of its kind byte, counted from 0.
+#[derive(Clone, Copy, PartialEq, Eq, Debug, Error)]
+#[error("at byte {place}: {cause}")]
+pub struct Fault {
+    pub cause: Cause,
+    pub place: usize,
+}

@@ -1,0 +1,6 @@
+// The file of a plan and the codes of its cores: read and written, byte by byte.
+#![tactic(auto)]
+
+pub mod faults;
+pub mod reading;
+pub mod records;
