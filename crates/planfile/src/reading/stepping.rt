@@ -50,4 +50,88 @@ impl<'b> Reader<'b> {
             cores: 0,
         }
     }
+
+    // Tests the kind of the next record.
+    fn test_kind(&self, kind: u8) -> Result<(), Flaw>
+        requires { kind ≡ kind_here self.now.bytes.now (standing self.now) }
+        ensures { fails (Unknown self.now.bytes.now (standing self.now)) UnknownKind (fails (KindMisplaced self.now.bytes.now (standing self.now)) OutOfOrder (λ r. r ≡ Ok tt)) result }
+    {
+        if kind == 0 || kind > 4 {
+            return Err(Flaw::UnknownKind);
+        }
+        if kind < self.kind || (kind == 3 && self.cores >= 8) || (kind == 4 && self.cores < 8) {
+            return Err(Flaw::OutOfOrder);
+        }
+        Ok(())
+    }
+
+    // Tests where the next record stands among the joins and the cores.
+    fn test_body(&self, next: Record) -> Result<(), Flaw>
+        requires here { next ≡ record_here self.now.bytes.now (standing self.now) }
+        requires known { ¬ Unknown self.now.bytes.now (standing self.now) }
+        ensures { fails (BodyMisplaced self.now.bytes.now (standing self.now)) OutOfOrder (λ r. r ≡ Ok tt) result }
+    {
+        match next {
+            Record::Join { first, second } if (first, second) <= (self.first, self.second) => Err(Flaw::OutOfOrder),
+            Record::Core { core, .. } if core != self.cores + 1 => Err(Flaw::OutOfOrder),
+            _ => Ok(()),
+        }
+    }
+
+    // The next record, which passes every test.
+    fn look(&self) -> Result<Record, Flaw>
+        ensures { MatchResult result (λ r. NextIs self.now.bytes.now (standing self.now) (Ok r)) (λ why. NextIs self.now.bytes.now (standing self.now) (Err (flaw (standing self.now) why))) }
+    {
+        let [kind, body @ ..] = &self.bytes[self.place..] else {
+            return Err(Flaw::Cut);
+        };
+        self.test_kind(*kind)?;
+        let record = decode(*kind, body).ok_or(Flaw::Cut)?;
+        self.test_body(record)?;
+        Ok(record)
+    }
+
+    // Goes past the next record.
+    fn pass(&mut self, next: Record)
+        requires { NextIs self.old.bytes.now (standing self.old) (Ok next) }
+        ensures past { standing self.new ≡ past self.old.bytes.now (standing self.old) }
+        ensures bytes { self.new.bytes.now ≡ self.old.bytes.now }
+    {
+        match next {
+            Record::Handler(_) => {
+                self.kind = 1;
+                self.place += 10;
+            }
+            Record::Join { first, second } => {
+                self.kind = 2;
+                self.place += 3;
+                self.first = first;
+                self.second = second;
+            }
+            Record::Core { .. } => {
+                self.kind = 3;
+                self.place += 3;
+                self.cores += 1;
+            }
+            Record::End => {
+                self.kind = 4;
+                self.place += 1;
+            }
+        }
+    }
+
+    /// The next record, if it passes every test of a record; a record that is refused stays the next.
+    pub fn next_record(&mut self) -> Result<Record, Fault>
+        ensures next { NextIs self.old.bytes.now (standing self.old) result }
+        ensures past { IfOk result (λ _. standing self.new ≡ past self.old.bytes.now (standing self.old)) }
+        ensures bytes { self.new.bytes.now ≡ self.old.bytes.now }
+        ensures stays { OnErr result (self.new ≡ self.old) }
+    {
+        let record = self.look().map_err(|why| Fault {
+            cause: Cause::File(why),
+            place: self.place,
+        })?;
+        self.pass(record);
+        Ok(record)
+    }
 }
