@@ -1,7 +1,7 @@
 // Why a file is not read or written.
 ghost use Rattle.std.specs.Prelude.{◌≡◌};
 ghost use Rattle.planfile.specs.Numbers.{flaw_number};
-ghost use Rattle.planfile.specs.declared.faults.Cause.TheVariants.{File, Plan};
+ghost use Rattle.planfile.specs.declared.faults.Cause.TheVariants.{Plan};
 
 use terms::refusals::Refusal;
 use thiserror::Error;
@@ -39,15 +39,7 @@ pub enum Cause {
     Plan(Refusal),
 }
 
-// By hand and not by `#[from]`, whose impls have no contract: clauses say which cause a `?` passes on.
-impl From<Flaw> for Cause {
-    ghost from_gives = { λ flaw cause. cause ≡ File flaw };
-
-    fn from(flaw: Flaw) -> Cause {
-        Cause::File(flaw)
-    }
-}
-
+// By hand and not by `#[from]`, whose impl has no contract: clauses say which cause a `?` passes on.
 impl From<Refusal> for Cause {
     ghost from_gives = { λ refusal cause. cause ≡ Plan refusal };
 

@@ -127,11 +127,11 @@ impl<'b> Reader<'b> {
         ensures bytes { self.new.bytes.now ≡ self.old.bytes.now }
         ensures stays { OnErr result (self.new ≡ self.old) }
     {
-        let record = self.look().map_err(|why| Fault {
+        let next = self.look().map_err(|why| Fault {
             cause: Cause::File(why),
             place: self.place,
         })?;
-        self.pass(record);
-        Ok(record)
+        self.pass(next);
+        Ok(next)
     }
 }
