@@ -12,7 +12,7 @@ use terms::handlers::Handler;
 // The record of this kind that the bytes after its kind byte begin with, if they do not end inside it.
 fn decode(kind: u8, body: &[u8]) -> Option<Record>
     requires known { ¬ Unknown (kind ∷ body.now) outset }
-    ensures { MatchOption result (EndsInside (kind ∷ body.now) outset) (λ r. (¬ EndsInside (kind ∷ body.now) outset) × (r ≡ record_here (kind ∷ body.now) outset)) }
+    ensures { let bytes = kind ∷ body.now in MatchOption result (EndsInside bytes outset) (λ r. (¬ EndsInside bytes outset) × (r ≡ record_here bytes outset)) }
 {
     match (kind, body) {
         (1, [p0, p1, o0, o1, s0, s1, l0, l1, core, ..]) => Some(Record::Handler(Handler {
@@ -54,7 +54,7 @@ impl<'b> Reader<'b> {
     // Tests the kind of the next record.
     fn test_kind(&self, kind: u8) -> Result<(), Flaw>
         requires { kind ≡ kind_here self.now.bytes.now (standing self.now) }
-        ensures { fails (Unknown self.now.bytes.now (standing self.now)) UnknownKind (fails (KindMisplaced self.now.bytes.now (standing self.now)) OutOfOrder (λ r. r ≡ Ok tt)) result }
+        ensures { let bytes = self.now.bytes.now in let s = standing self.now in fails (Unknown bytes s) UnknownKind (fails (KindMisplaced bytes s) OutOfOrder (λ r. r ≡ Ok tt)) result }
     {
         if kind == 0 || kind > 4 {
             return Err(Flaw::UnknownKind);
@@ -67,12 +67,13 @@ impl<'b> Reader<'b> {
 
     // Tests where the next record stands among the joins and the cores.
     fn test_body(&self, next: Record) -> Result<(), Flaw>
-        requires here { next ≡ record_here self.now.bytes.now (standing self.now) }
-        requires known { ¬ Unknown self.now.bytes.now (standing self.now) }
+        requires { next ≡ record_here self.now.bytes.now (standing self.now) }
         ensures { fails (BodyMisplaced self.now.bytes.now (standing self.now)) OutOfOrder (λ r. r ≡ Ok tt) result }
     {
         match next {
-            Record::Join { first, second } if (first, second) <= (self.first, self.second) => Err(Flaw::OutOfOrder),
+            Record::Join { first, second } if (first, second) <= (self.first, self.second) => Err(
+                Flaw::OutOfOrder,
+            ),
             Record::Core { core, .. } if core != self.cores + 1 => Err(Flaw::OutOfOrder),
             _ => Ok(()),
         }
@@ -80,7 +81,7 @@ impl<'b> Reader<'b> {
 
     // The next record, which passes every test.
     fn look(&self) -> Result<Record, Flaw>
-        ensures { MatchResult result (λ r. NextIs self.now.bytes.now (standing self.now) (Ok r)) (λ why. NextIs self.now.bytes.now (standing self.now) (Err (flaw (standing self.now) why))) }
+        ensures { let passes = NextIs self.now.bytes.now (standing self.now) in MatchResult result (λ r. passes (Ok r)) (λ why. passes (Err (flaw (standing self.now) why))) }
     {
         let [kind, body @ ..] = &self.bytes[self.place..] else {
             return Err(Flaw::Cut);

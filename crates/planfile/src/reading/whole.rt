@@ -25,7 +25,10 @@ fn enter_all(bytes: &[u8], plan: &mut Plan, codes: &mut ArrayVec<u8, 8>) -> Resu
         enter(plan, codes, next).map_err(|cause| Fault { cause, place })?;
     }
     if reader.place < bytes.len() {
-        return Err(Fault { cause: Cause::File(Flaw::OutOfOrder), place: reader.place });
+        return Err(Fault {
+            cause: Cause::File(Flaw::OutOfOrder),
+            place: reader.place,
+        });
     }
     Ok(())
 }
