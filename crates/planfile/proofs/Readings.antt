@@ -1,25 +1,25 @@
--- How many cores there are where a reader has come by the records of a file.
-use Rattle.std.proofs.Common.{◌≡◌, ℕ, suc, ◌<◌, ◌≤◌, MatchResult, List, [], ◌∷◌, ◌++◌, length, Ok, Err, Result, is_ok, true, false, true≢false, inl, inr, refl, sym, arith, rules, length-append}
+-- Where a reader has come by the records of a file: how many cores there were, and what the next record does.
+use Rattle.std.proofs.Common.{◌≡◌, ℕ, ◌<◌, ◌≤◌, MatchResult, List, [], length, Ok, Err, Result, inr, refl, arith, rules, length-append}
 use Rattle.std.proofs.lemmas.Bool.Decides.{nat_tests}
 use Rattle.plan.specs.Contents.{Contents, empty}
 use Rattle.planfile.specs.declared.faults.Cause.{Cause}
 use Rattle.planfile.specs.declared.faults.Fault.{Fault}
 use Rattle.planfile.specs.declared.records.Record.{Record}
 use Rattle.planfile.specs.declared.records.Record.TheVariants.{Handler as HandlerRecord, Join as JoinRecord, Core as CoreRecord, End}
-use Rattle.planfile.specs.Tests.{Standing, outset, past, kind_here, record_here, AtEnd, Unknown, KindMisplaced, EndsInside, BodyMisplaced, NextIs, Enters}
+use Rattle.planfile.specs.Tests.{Standing, outset, past, record_here, Unknown, KindMisplaced, NextIs, Enters}
 use Rattle.planfile.specs.Reads.{IsFile, IsRefused, Reached, none, one_more}
 
--- the record passes every test
-pub record Passes (bytes : List ℕ) (s : Standing) (r : Record) : Type 0 where
+-- what of the tests that the record passes is needed here
+record Passes (bytes : List ℕ) (s : Standing) (r : Record) : Type 0 where
   pub known : ¬ Unknown bytes s
   pub placed : ¬ KindMisplaced bytes s
   pub is : r ≡ record_here bytes s
 
-pub passes : (bytes : List ℕ) (s : Standing) (r : Record) → NextIs bytes s (Ok r) → Passes bytes s r
+passes : (bytes : List ℕ) (s : Standing) (r : Record) → NextIs bytes s (Ok r) → Passes bytes s r
 passes bytes s r h = search rules
 
 -- there is a code for each core so far, and at the end for all eight
-pub record Counts (s : Standing) (codes : List ℕ) : Type 0 where
+record Counts (s : Standing) (codes : List ℕ) : Type 0 where
   pub counted : length codes ≡ s.cores
   pub few : s.cores ≤ 8
   pub all : s.kind ≡ 4 → 8 ≤ s.cores
@@ -30,34 +30,21 @@ one_further bytes s k next codes more (JoinRecord a b) p (q, made, e, same) c = 
 one_further bytes s k next codes more (CoreRecord core code) p (e, same) c = record { counted = grind (arith, nat_tests, length-append); few = grind (arith, nat_tests); all = grind (arith, nat_tests) }
 one_further bytes s k next codes more End p (e, same, kept) c = record { counted = grind (arith, nat_tests); few = grind (arith, nat_tests); all = grind (arith, nat_tests) }
 
-pub counts : (bytes : List ℕ) (s : Standing) (k : Contents) (codes : List ℕ) → Reached bytes s k codes → Counts s codes
+counts : (bytes : List ℕ) (s : Standing) (k : Contents) (codes : List ℕ) → Reached bytes s k codes → Counts s codes
 counts bytes _ _ _ none = record { counted = refl; few = omega arith; all = λ e. omega (arith, e) }
 counts bytes _ _ _ (one_more {s} {k} {next} {codes} {more} r reached going found entered) =
     one_further bytes s k next codes more r (passes bytes s r found) entered (counts bytes s k codes reached)
 
--- ---- one record more
+-- a file has eight codes
+pub eight : (bytes : List ℕ) (k : Contents) (codes : List ℕ) → IsFile bytes k codes → length codes ≡ 8
+eight bytes k codes file =
+    let c = counts bytes file.stands k codes file.reached in
+    omega (arith, c.counted, c.few, c.all file.ended)
+
+-- ---- from record to record
 
 pub begun : (bytes : List ℕ) (s : Standing) (k : Contents) (codes : List ℕ) → s ≡ outset → k ≡ empty → codes ≡ [] → Reached bytes s k codes
-begun bytes s k codes e f g = rw (e, f, g) none
-
--- a core's record finds room for its code
-pub room : (bytes own : List ℕ) (s : Standing) (k : Contents) (codes : List ℕ) (r : Record) (core code : ℕ) → own ≡ bytes → Reached bytes s k codes → NextIs own s (Ok r) → r ≡ CoreRecord core code → length codes < 8
-room bytes own s k codes r core code same reached next is =
-    let p = passes own s r next in
-    let c = counts bytes s k codes reached in
-    grind (arith, nat_tests, p.placed, p.is, c.counted)
-
-accepted : (r : Result (Unit {0}) Cause) → true ≡ is_ok r → r ≡ Ok tt
-accepted (Ok tt) e = refl
-accepted (Err x) e = absurd (true≢false e)
-
-pub further : (bytes own : List ℕ) (s after : Standing) (k next : Contents) (codes more : List ℕ) (r : Record) (answer : Result (Unit {0}) Cause) → own ≡ bytes → Reached bytes s k codes → ¬ (s.kind ≡ 4) → NextIs own s (Ok r) → after ≡ past own s → Enters k codes r answer next more → true ≡ is_ok answer → Reached bytes after next more
-further bytes own s after k next codes more r answer same reached going found is entered ok =
-    let found' : NextIs bytes s (Ok r) = rw same at found in
-    let entered' : Enters k codes r (Ok tt) next more = rw (accepted answer ok) at entered in
-    rw (is, same) (one_more r reached going found' entered')
-
--- ---- where it ends
+begun bytes s k codes at_outset is_empty no_code = rw (at_outset, is_empty, no_code) none
 
 -- a record that is not entered changes nothing
 unentered : (k next : Contents) (codes more : List ℕ) (r : Record) (why : Cause) → Enters k codes r (Err why) next more → Enters k codes r (Err why) k codes
@@ -68,16 +55,33 @@ unentered k next codes more (JoinRecord a b) why (Err x, made, e, same) = (Err x
 unentered k next codes more (CoreRecord core code) why ((no_code, e, same), kept) = ((no_code, e, refl), refl)
 unentered k next codes more End why (e, same, kept) = absurd (search rules)
 
-pub told : (k next : Contents) (codes more : List ℕ) (r : Record) (answer : Result (Unit {0}) Cause) → Enters k codes r answer next more → MatchResult answer (λ _. Unit {0}) (λ why. Enters k codes r (Err why) k codes)
-told k next codes more r (Ok tt) h = tt
-told k next codes more r (Err why) h = unentered k next codes more r why h
+-- the record is entered, or it changes nothing
+pub entered_or_not : (k next : Contents) (codes more : List ℕ) (r : Record) (answer : Result (Unit {0}) Cause) → Enters k codes r answer next more → MatchResult answer (λ _. Enters k codes r (Ok tt) next more) (λ why. Enters k codes r (Err why) k codes)
+entered_or_not k next codes more r (Ok tt) h = h
+entered_or_not k next codes more r (Err why) h = unentered k next codes more r why h
 
-pub refused_entry : (bytes own : List ℕ) (s : Standing) (k : Contents) (codes : List ℕ) (r : Record) (why : Cause) (f : Fault) → own ≡ bytes → Reached bytes s k codes → ¬ (s.kind ≡ 4) → NextIs own s (Ok r) → Enters k codes r (Err why) k codes → f ≡ record { cause = why; place = s.place } → IsRefused bytes f
-refused_entry bytes own s k codes r why f same reached going found entered is =
-    inr (inr record { stands = s; contents = k; codes = codes; reached = reached; going = going; entry = r; next = rw same at found; cause = why; enters = entered; fault = is })
+module _ (bytes : List ℕ) (s : Standing) (k : Contents) (codes : List ℕ) (reached : Reached bytes s k codes) (r : Record) (found : NextIs bytes s (Ok r)) where
+  -- a core's record finds room for its code
+  pub room : (core code : ℕ) → r ≡ CoreRecord core code → length codes < 8
+  room core code is =
+      let p = passes bytes s r found in
+      let c = counts bytes s k codes reached in
+      grind (arith, nat_tests, p.placed, p.is, c.counted)
 
--- a file has eight codes
-pub eight : (bytes : List ℕ) (k : Contents) (codes : List ℕ) → IsFile bytes k codes → length codes ≡ 8
-eight bytes k codes file =
-    let c = counts bytes file.stands k codes file.reached in
-    omega (arith, c.counted, c.few, c.all file.ended)
+  pub further : (after : Standing) (next : Contents) (more : List ℕ) → ¬ (s.kind ≡ 4) → after ≡ past bytes s → Enters k codes r (Ok tt) next more → Reached bytes after next more
+  further after next more going is entered = rw is (one_more r reached going found entered)
+
+  pub refused_entry : (why : Cause) (f : Fault) → ¬ (s.kind ≡ 4) → Enters k codes r (Err why) k codes → f ≡ record { cause = why; place = s.place } → IsRefused bytes f
+  refused_entry why f going enters is =
+      inr (inr record {
+        stands = s;
+        contents = k;
+        codes = codes;
+        reached = reached;
+        going = going;
+        entry = r;
+        next = found;
+        cause = why;
+        enters = enters;
+        fault = is;
+      })
