@@ -1,6 +1,7 @@
 // Why a file is not read or written.
 ghost use Rattle.std.specs.Prelude.{◌≡◌};
 ghost use Rattle.planfile.specs.Numbers.{flaw_number};
+ghost use Rattle.planfile.specs.declared.faults.Cause.TheVariants.{Plan};
 
 use terms::refusals::Refusal;
 use thiserror::Error;
@@ -36,6 +37,15 @@ pub enum Cause {
     File(Flaw),
     #[error("{0}")]
     Plan(Refusal),
+}
+
+// By hand and not by `#[from]`, whose impl has no contract: clauses say which cause a `?` passes on.
+impl From<Refusal> for Cause {
+    ghost from_gives = { λ refusal cause. cause ≡ Plan refusal };
+
+    fn from(refusal: Refusal) -> Cause {
+        Cause::Plan(refusal)
+    }
 }
 
 /// Why a file is refused, and at which record: the place of its kind byte, counted from 0.

@@ -1,12 +1,11 @@
-// Reading a file, record by record.
-ghost use Rattle.std.specs.Prelude.{◌≡◌, MatchResult};
-ghost use Rattle.planfile.specs.Tests.{outset, past, NextIs};
-ghost use Rattle.planfile.specs.Readers.{standing};
+// Readers of a file's bytes.
+ghost use Rattle.std.specs.Prelude.{◌≤◌, length};
 
-use crate::faults::Fault;
-use crate::records::Record;
+mod stepping;
+pub mod whole;
 
 /// A reader of a file's bytes: how many it has read, and what of the records so far decides which may follow.
+#[derive(Drop)]
 pub struct Reader<'b> {
     bytes: &'b [u8],
     place: usize,
@@ -14,4 +13,6 @@ pub struct Reader<'b> {
     first: u8,
     second: u8,
     cores: u8,
+    ghost inside: { place ≤ length bytes.now },
+    ghost few: { cores ≤ 8 },
 }
