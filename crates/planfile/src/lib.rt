@@ -4,3 +4,4 @@
 pub mod faults;
 pub mod reading;
 pub mod records;
+pub mod writing;

@@ -1,0 +1,2 @@
+pub mod WritingRecords
+pub mod WritingSteps
