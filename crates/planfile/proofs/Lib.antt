@@ -1,2 +1,3 @@
+pub mod Lengths
 pub mod WritingRecords
 pub mod WritingSteps

@@ -1,5 +1,5 @@
 -- Bytes that are put into a buffer one after another.
-use Rattle.std.proofs.Common.{◌≡◌, ℕ, suc, ◌+◌, ◌-◌, ◌<◌, ◌≤◌, List, [], ◌∷◌, ◌++◌, length, get_or, take, drop, flat_map, refl, sym, ap, ap₂, subst, le_of_eq, ◌∙◌, append_assoc, append-nil, length-append, length-drop, length-take-le, take-append-drop, take_at, drop_at, drop-drop, arith}
+use Rattle.std.proofs.Common.{◌≡◌, ℕ, suc, ◌+◌, ◌-◌, ◌*◌, ◌<◌, ◌≤◌, List, [], ◌∷◌, ◌++◌, length, get_or, take, drop, flat_map, refl, sym, ap, ap₂, subst, le_of_eq, suc-mul, ◌∙◌, append_assoc, append-nil, length-append, length-drop, length-take-le, take-append-drop, take_at, drop_at, drop-drop, arith}
 use Rattle.std.proofs.lemmas.List.{take_all, take_more, flat_map_more}
 use Rattle.std.proofs.lemmas.List.Folds.{length-flat_map-take}
 use Rattle.std.proofs.lemmas.List.FromFn.{length-range_with_len, get_or-range_with_len}
@@ -45,50 +45,83 @@ puts_four was a b c d room i j k l in_a in_b in_c in_d pa pb pc pd =
     let abc = puts_on was 0 (a ++ b) j in_b ab (omega (arith, room, three, four)) c k in_c pc in
     puts_on was 0 (a ++ b ++ c) k in_c abc (omega (arith, room, four)) d l in_d pd
 
--- ---- a loop over the numbers from 1 to count puts the bytes of each
+-- ---- loops over the numbers from 1 to count, and the bytes of each
 
--- the bytes of the numbers below n are put
-pub record Below (bytes_of : ℕ → List ℕ) (count : ℕ) (was : List ℕ) (place n next : ℕ) (is : List ℕ) : Type 0 where
-  pub some : 1 ≤ n
-  pub puts : Puts was place (flat_map bytes_of (take (n - 1) (range_with_len 1 count))) next is
+module _ (bytes_of : ℕ → List ℕ) (count : ℕ) where
+  -- the bytes of the numbers below n
+  abbrev pub bytes_below : ℕ → List ℕ
+  bytes_below n = flat_map bytes_of (take (n - 1) (range_with_len 1 count))
 
-module _ (bytes_of : ℕ → List ℕ) (count : ℕ) (all : List ℕ) (whole : flat_map bytes_of (range_with_len 1 count) ≡ all) (was : List ℕ) (place : ℕ) (room : place + length all ≤ length was) where
-  module _ (n next : ℕ) (is : List ℕ) (below : Below bytes_of count was place n next is) where
+  -- the bytes of all numbers
+  abbrev bytes : List ℕ
+  bytes = flat_map bytes_of (range_with_len 1 count)
+
+  module _ (n : ℕ) (some : 1 ≤ n) where
     module _ (inside : n ≤ count) where
       inside_list : n - 1 < length (range_with_len 1 count)
-      inside_list = omega (arith, inside, below.some, length-range_with_len 1 count)
+      inside_list = omega (arith, inside, some, length-range_with_len 1 count)
 
       here : get_or (range_with_len 1 count) (n - 1) 0 ≡ n
-      here = get_or-range_with_len 1 count (n - 1) 0 (omega (arith, inside, below.some)) ∙ omega (arith, below.some)
+      here = get_or-range_with_len 1 count (n - 1) 0 (omega (arith, inside, some)) ∙ omega (arith, some)
 
-      fits : length (flat_map bytes_of (take (n - 1) (range_with_len 1 count))) + length (bytes_of n) ≤ length all
-      fits = subst (λ l. length (flat_map bytes_of (take (n - 1) (range_with_len 1 count))) + length (bytes_of n) ≤ length l) whole (rw here at (length-flat_map-take bytes_of (range_with_len 1 count) (n - 1) 0 inside_list))
+      one_more_fits : length (bytes_below n) + length (bytes_of n) ≤ length bytes
+      one_more_fits = rw here at (length-flat_map-take bytes_of (range_with_len 1 count) (n - 1) 0 inside_list)
 
-      room_before : place + length (flat_map bytes_of (take (n - 1) (range_with_len 1 count))) ≤ length was
-      room_before = omega (arith, room, fits)
-
-      pub room_here : next + length (bytes_of n) ≤ length is
-      room_here = omega (arith, room, fits, below.puts.behind, length_kept _ _ _ _ _ below.puts room_before)
-
-      one_more : flat_map bytes_of (take (n - 1) (range_with_len 1 count)) ++ bytes_of n ≡ flat_map bytes_of (take (n + 1 - 1) (range_with_len 1 count))
+      one_more : bytes_below n ++ bytes_of n ≡ bytes_below (n + 1)
       one_more =
           flat_map_more bytes_of [] (take (n - 1) (range_with_len 1 count)) n
           ∙ ap (λ m. flat_map bytes_of (take (n - 1) (range_with_len 1 count) ++ m ∷ [])) (sym here)
           ∙ ap (flat_map bytes_of) (sym (take_more (range_with_len 1 count) (n - 1) 0 inside_list))
-          ∙ ap (λ m. flat_map bytes_of (take m (range_with_len 1 count))) (omega (arith, below.some))
+          ∙ ap (λ m. flat_map bytes_of (take m (range_with_len 1 count))) (omega (arith, some))
 
-      pub below_next : (after : ℕ) (now : List ℕ) → Puts is next (bytes_of n) after now → Below bytes_of count was place (n + 1) after now
-      below_next after now puts = record {
-        some = omega arith;
-        puts = subst (λ bytes. Puts was place bytes after now) one_more (puts_on _ _ _ _ _ below.puts room_before _ _ _ puts);
-      }
+    all_below : count < n → bytes_below n ≡ bytes
+    all_below past = ap (flat_map bytes_of) (take_all (n - 1) (range_with_len 1 count) (omega (arith, past, length-range_with_len 1 count)))
 
-    pub below_all : count < n → Puts was place all next is
-    below_all past =
-        subst (λ bytes. Puts was place bytes next is) whole
-        (subst (λ taken. Puts was place (flat_map bytes_of taken) next is) (take_all (n - 1) (range_with_len 1 count) (omega (arith, past, length-range_with_len 1 count))) below.puts)
+  -- ---- a loop that puts them
 
-  -- the bytes of the last number are put
-  pub below_last : (n next : ℕ) (is : List ℕ) → Below bytes_of count was place n next is → n ≡ count → (after : ℕ) (now : List ℕ) → Puts is next (bytes_of n) after now → Puts was place all after now
-  below_last n next is below last after now puts =
-      below_all (n + 1) after now (below_next n next is below (le_of_eq last) after now puts) (omega (arith, last))
+  -- those of the numbers below n are put
+  pub record Below (was : List ℕ) (place n next : ℕ) (is : List ℕ) : Type 0 where
+    pub some : 1 ≤ n
+    pub puts : Puts was place (bytes_below n) next is
+
+  module _ (all : List ℕ) (whole : bytes ≡ all) (was : List ℕ) (place : ℕ) (room : place + length all ≤ length was) where
+    module _ (n next : ℕ) (is : List ℕ) (below : Below was place n next is) where
+      module _ (inside : n ≤ count) where
+        room_before : place + length (bytes_below n) ≤ length was
+        room_before = omega (arith, room, one_more_fits n below.some inside, ap length whole)
+
+        pub room_here : next + length (bytes_of n) ≤ length is
+        room_here = omega (arith, room, one_more_fits n below.some inside, ap length whole, below.puts.behind, length_kept _ _ _ _ _ below.puts room_before)
+
+        pub below_next : (after : ℕ) (now : List ℕ) → Puts is next (bytes_of n) after now → Below was place (n + 1) after now
+        below_next after now puts = record {
+          some = omega arith;
+          puts = subst (λ l. Puts was place l after now) (one_more n below.some inside) (puts_on _ _ _ _ _ below.puts room_before _ _ _ puts);
+        }
+
+      pub below_all : count < n → Puts was place all next is
+      below_all past = subst (λ l. Puts was place l next is) (all_below n below.some past ∙ whole) below.puts
+
+    -- those of the last number are put
+    pub below_last : (n next : ℕ) (is : List ℕ) → Below was place n next is → n ≡ count → (after : ℕ) (now : List ℕ) → Puts is next (bytes_of n) after now → Puts was place all after now
+    below_last n next is below last after now puts = below_all (n + 1) after now (below_next n next is below (le_of_eq last) after now puts) (omega (arith, last))
+
+  -- ---- a loop that adds up how many they are
+
+  -- those of the numbers below n are counted
+  pub record Counted (n so_far : ℕ) : Type 0 where
+    pub some : 1 ≤ n
+    pub sum : so_far ≡ length (bytes_below n)
+
+  module _ (n so_far : ℕ) (counted : Counted n so_far) where
+    pub counted_within : n ≤ count → so_far + length (bytes_of n) ≤ length bytes
+    counted_within inside = omega (arith, counted.sum, one_more_fits n counted.some inside)
+
+    pub counted_next : n ≤ count → Counted (n + 1) (so_far + length (bytes_of n))
+    counted_next inside = record {
+      some = omega arith;
+      sum = omega (arith, counted.sum, length-append (bytes_below n) (bytes_of n), ap length (one_more n counted.some inside));
+    }
+
+    pub counted_last : n ≡ count → so_far + length (bytes_of n) ≡ length bytes
+    counted_last last = (counted_next (le_of_eq last)).sum ∙ ap length (all_below (n + 1) (omega arith) (omega (arith, last)))

@@ -1,6 +1,6 @@
 // Writing the file of a plan and the codes of its cores.
-ghost use Rattle.std.specs.Prelude.{◌≡◌, ◌+◌, ◌*◌, ◌≤◌, [], ◌∷◌, ◌++◌, length, Decides};
-ghost use Rattle.plan.specs.Contents.{contents, count};
+ghost use Rattle.std.specs.Prelude.{◌≡◌, ◌+◌, ◌*◌, ◌≤◌, [], ◌∷◌, ◌++◌, length};
+ghost use Rattle.plan.specs.Contents.{contents};
 ghost use Rattle.planfile.specs.Files.{handler_record, handler_records, record_if_joined, joins_from, join_records, core_records, file_of};
 ghost use Rattle.planfile.specs.Writes.{record_if_known, Puts, Writes};
 
@@ -119,31 +119,36 @@ fn put_file(plan: &Plan, codes: &[u8; 8], buffer: &mut [u8]) -> usize
 
 // ---- the length of a file
 
-// How many handlers the one of this number is joined before.
-fn count_joins_from(plan: &Plan, first: u8) -> usize
-    ensures value { length (joins_from (contents plan.now) first) ≡ 3 * result }
-    ensures small { result ≤ count (contents plan.now) }
+fn join_length(plan: &Plan, first: u8, second: u8) -> usize
+    ensures { result ≡ length (record_if_joined (contents plan.now) first second) }
 {
-    (1..=plan.count())
-        .filter(|second| plan.joined(first, *second))
-        .count()
+    if plan.joined(first, second) { 3 } else { 0 }
 }
 
-fn count_joins(plan: &Plan) -> usize
-    ensures value { length (join_records (contents plan.now)) ≡ 3 * result }
-    ensures small { result ≤ count (contents plan.now) * count (contents plan.now) }
+fn joins_length_from(plan: &Plan, first: u8) -> usize
+    ensures { result ≡ length (joins_from (contents plan.now) first) }
 {
-    let mut joins = 0;
-    for first in 1..=plan.count() {
-        joins += count_joins_from(plan, first);
+    let mut length = 0;
+    for second in 1..=plan.count() {
+        length += join_length(plan, first, second);
     }
-    joins
+    length
+}
+
+fn joins_length(plan: &Plan) -> usize
+    ensures { result ≡ length (join_records (contents plan.now)) }
+{
+    let mut length = 0;
+    for first in 1..=plan.count() {
+        length += joins_length_from(plan, first);
+    }
+    length
 }
 
 fn file_length(plan: &Plan, codes: &[u8; 8]) -> usize
     ensures { result ≡ length (file_of (contents plan.now) codes.now) }
 {
-    10 * plan.count() as usize + 3 * count_joins(plan) + 3 * codes.len() + 1
+    10 * plan.count() as usize + joins_length(plan) + 3 * codes.len() + 1
 }
 
 /// Writes the file of the plan and these codes, of the cores 1 to 8, to the front of the buffer, and answers its
