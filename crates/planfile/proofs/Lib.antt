@@ -1,3 +1,4 @@
 pub mod Lengths
+pub mod LengthsReached
 pub mod WritingRecords
 pub mod WritingSteps

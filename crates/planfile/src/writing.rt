@@ -2,6 +2,7 @@
 ghost use Rattle.std.specs.Prelude.{◌≡◌, ◌+◌, ◌*◌, ◌≤◌, [], ◌∷◌, ◌++◌, length};
 ghost use Rattle.plan.specs.Contents.{contents};
 ghost use Rattle.planfile.specs.Files.{handler_record, handler_records, record_if_joined, joins_from, join_records, core_records, file_of};
+ghost use Rattle.planfile.specs.Theorems.{LongestFile};
 ghost use Rattle.planfile.specs.Writes.{record_if_known, Puts, Writes};
 
 use crate::faults::Flaw;
@@ -155,6 +156,7 @@ fn file_length(plan: &Plan, codes: &[u8; 8]) -> usize
 /// length. Refused, it leaves the buffer as it was.
 pub fn write(plan: &Plan, codes: &[u8; 8], buffer: &mut [u8]) -> Result<usize, Flaw>
     ensures writes { Writes (contents plan.now) codes.now buffer.old result buffer.new }
+    ensures longest { LongestFile }
 {
     if !codes.iter().all(|code| (1..=3).contains(code)) {
         return Err(Flaw::NoSuchCode);
