@@ -1,15 +1,12 @@
 -- A plan whose file is as long as any.
-use Rattle.std.proofs.Common.{◌≡◌, ℕ, zero, suc, ◌+◌, ◌-◌, ◌<◌, ◌≤◌, Bool, true, nat_lt, ◌&&◌, List, [], ◌∷◌, length, get_or, replicate, fold, ltb-true, refl, sym, ap, ◌∙◌, subst, lt_trans, lt_irrefl, arith}
+use Rattle.std.proofs.Common.{◌≡◌, ℕ, ◌<◌, true, nat_lt, ◌&&◌, List, replicate, ltb-true, refl, sym, ap, ◌∙◌, lt_trans, lt_irrefl, arith}
 use Rattle.std.proofs.lemmas.Bool.{and_parts}
-use Rattle.std.proofs.lemmas.List.{get_or-replicate, length-replicate}
-use Rattle.std.specs.List.{Contains as Has}
+use Rattle.std.proofs.lemmas.List.{get_or-replicate}
 use Rattle.terms.specs.declared.handlers.Handler.{Handler}
-use Rattle.plan.specs.Rows.{blank, round_of}
+use Rattle.plan.specs.Rows.{blank}
 use Rattle.plan.specs.Joins.{Chain, one, more}
-use Rattle.plan.specs.Contents.{Contents, Sound, count, at, round}
-use Rattle.planfile.specs.Files.{file_of}
-use Rattle.planfile.specs.Tests.{IsCode}
-use Rattle.planfile.specs.Theorems.{AreCodes, LongestFile, longest}
+use Rattle.plan.specs.Contents.{Contents, Sound, at}
+use Rattle.planfile.specs.Theorems.{AreCodes, LongestFile}
 use Rattle.planfile.proofs.Lengths.{none_longer}
 
 -- 64 handlers like this one

@@ -1,10 +1,9 @@
 -- The records of a file, each by the number that it is of.
-use Rattle.std.proofs.Common.{◌≡◌, ℕ, suc, ◌+◌, ◌-◌, ◌*◌, ◌<◌, ◌≤◌, ◌&&◌, nat_le, true, false, cond, List, [], ◌∷◌, ◌++◌, length, get_or, flat_map, le-leb, refl, sym, ap, ap₂, add-zero, add-one, ◌∙◌, arith}
+use Rattle.std.proofs.Common.{◌≡◌, ℕ, suc, ◌+◌, ◌-◌, ◌<◌, ◌&&◌, nat_le, true, cond, List, [], ◌∷◌, ◌++◌, length, get_or, flat_map, le-leb, refl, sym, ap, ap₂, add-zero, add-one, ◌∙◌, arith}
 use Rattle.std.specs.List.{range_with_len}
-use Rattle.std.proofs.lemmas.List.FromFn.{length-range_with_len}
 use Rattle.plan.specs.Rows.{blank}
-use Rattle.plan.specs.Contents.{Contents, at, count, joins}
-use Rattle.planfile.specs.Files.{handler_record, handler_records, numbers, join_record, record_if_joined, joins_from, core_record, core_records}
+use Rattle.plan.specs.Contents.{Contents, at, count}
+use Rattle.planfile.specs.Files.{handler_record, handler_records, numbers, core_record, core_records}
 use Rattle.planfile.specs.Writes.{record_if_known}
 
 -- going along a list is going along the numbers of its elements, from a on

@@ -28,6 +28,8 @@ pub record Writes (k : Contents) (codes was : List ℕ) (r : Result ℕ Flaw) (i
   pub answers : write_tests (file_of k codes) codes was r
   pub leaves : is ≡ written (file_of k codes) was r
 
+-- ---- how it is written, record by record
+
 -- these bytes stand in the buffer from the place on, the rest of it is as it was, and the next place is behind them
 pub record Puts (was : List ℕ) (place : ℕ) (bytes : List ℕ) (next : ℕ) (is : List ℕ) : Type 0 where
   pub behind : next ≡ place + length bytes

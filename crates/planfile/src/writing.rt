@@ -1,5 +1,5 @@
-// Writing the file of a plan and the codes of its cores.
-ghost use Rattle.std.specs.Prelude.{◌≡◌, ◌+◌, ◌*◌, ◌≤◌, [], ◌∷◌, ◌++◌, length};
+// Writing the file of a plan and the codes of its cores: how long it is first, and only then its bytes.
+ghost use Rattle.std.specs.Prelude.{◌≡◌, ◌+◌, ◌≤◌, length};
 ghost use Rattle.plan.specs.Contents.{contents};
 ghost use Rattle.planfile.specs.Files.{handler_record, handler_records, record_if_joined, joins_from, join_records, core_records, file_of};
 ghost use Rattle.planfile.specs.Theorems.{LongestFile};
@@ -146,6 +146,7 @@ fn joins_length(plan: &Plan) -> usize
     length
 }
 
+// Ten bytes for each handler, three for each join and each core, and the end.
 fn file_length(plan: &Plan, codes: &[u8; 8]) -> usize
     ensures { result ≡ length (file_of (contents plan.now) codes.now) }
 {

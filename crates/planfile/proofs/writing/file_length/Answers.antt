@@ -1,6 +1,5 @@
-use Rattle.std.proofs.Common.{◌≤◌, length, arith}
-use Rattle.plan.specs.Contents.{contents, count}
-use Rattle.planfile.specs.Files.{join_records}
+use Rattle.std.proofs.Common.{arith}
+use Rattle.plan.specs.Contents.{contents}
 use Rattle.planfile.proofs.Lengths.{file_length, joins_length}
 use Rattle.planfile.proofs.writing.file_length.Goals as goal
 

@@ -1,5 +1,5 @@
-use Rattle.std.proofs.Common.{◌≡◌, ◌<◌, arith}
-use Rattle.plan.specs.Contents.{contents, count}
+use Rattle.std.proofs.Common.{arith}
+use Rattle.plan.specs.Contents.{contents}
 use Rattle.planfile.proofs.Lengths.{joins_length}
 use Rattle.planfile.proofs.WritingSteps.{counted_within, counted_next, counted_last}
 use Rattle.planfile.proofs.writing.joins_length.Goals as goal

@@ -1,4 +1,4 @@
-use Rattle.std.proofs.Common.{refl, arith}
+use Rattle.std.proofs.Common.{arith}
 use Rattle.plan.specs.Contents.{contents}
 use Rattle.planfile.proofs.WritingRecords.{handlers_by_number}
 use Rattle.planfile.proofs.WritingSteps.{room_here, below_next, below_last}
