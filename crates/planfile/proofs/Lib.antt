@@ -10,5 +10,9 @@ pub mod FiledSteps
 pub mod FiledTold
 pub mod FiledTurns
 pub mod FiledWritten
+pub mod Lengths
+pub mod LengthsReached
 pub mod Outcomes
 pub mod Readings
+pub mod WritingRecords
+pub mod WritingSteps

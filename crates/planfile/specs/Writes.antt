@@ -1,11 +1,11 @@
 -- Writing the file of a plan and the codes of its cores into a buffer.
-use Rattle.std.specs.Prelude.{◌≡◌, ℕ, ◌<◌, List, ◌++◌, length, drop, Ok, Err, Result}
+use Rattle.std.specs.Prelude.{◌≡◌, ℕ, ◌+◌, ◌-◌, ◌<◌, cond, List, [], ◌++◌, length, take, drop, Ok, Err, Result}
 use Rattle.std.specs.List.{Contains as Has}
-use Rattle.plan.specs.Contents.{Contents}
+use Rattle.plan.specs.Contents.{Contents, at, known}
 use Rattle.plan.specs.Calls.{refuses}
 use Rattle.planfile.specs.declared.faults.Flaw.{Flaw}
 use Rattle.planfile.specs.declared.faults.Flaw.TheVariants.{NoSuchCode, NoRoom}
-use Rattle.planfile.specs.Files.{file_of}
+use Rattle.planfile.specs.Files.{handler_record, file_of}
 use Rattle.planfile.specs.Tests.{IsCode}
 
 -- one of the codes is none
@@ -28,3 +28,14 @@ written file was (Err e) = was
 pub record Writes (k : Contents) (codes was : List ℕ) (r : Result ℕ Flaw) (is : List ℕ) : Type 0 where
   pub answers : write_tests (file_of k codes) codes was r
   pub leaves : is ≡ written (file_of k codes) was r
+
+-- ---- how it is written, record by record
+
+-- these bytes stand in the buffer from the place on, the rest of it is as it was, and the next place is behind them
+pub record Puts (was : List ℕ) (place : ℕ) (bytes : List ℕ) (next : ℕ) (is : List ℕ) : Type 0 where
+  pub behind : next ≡ place + length bytes
+  pub leaves : is ≡ take place was ++ bytes ++ drop (place + length bytes) was
+
+-- the record of the handler of this number, if there is one
+abbrev pub record_if_known : Contents → ℕ → List ℕ
+record_if_known k n = cond (known k n) (handler_record (at k (n - 1))) []

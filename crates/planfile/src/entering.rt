@@ -22,7 +22,7 @@ fn enter_code(codes: &mut ArrayVec<u8, 8>, code: u8) -> Result<(), Cause>
 }
 
 // Enters the record, unless the plan refuses it or its code is none.
-pub fn enter(plan: &mut Plan, codes: &mut ArrayVec<u8, 8>, next: Record) -> Result<(), Cause>
+pub(crate) fn enter(plan: &mut Plan, codes: &mut ArrayVec<u8, 8>, next: Record) -> Result<(), Cause>
     requires { (core code : ℕ) → next ≡ Record.Core core code → array_vec_len codes.old < 8 }
     ensures { Enters (contents plan.old) codes.old.items next result (contents plan.new) codes.new.items }
 {

@@ -5,3 +5,4 @@ mod entering;
 pub mod faults;
 pub mod reading;
 pub mod records;
+pub mod writing;

@@ -1,7 +1,8 @@
 // Reading a file, record by record.
 ghost use Rattle.std.specs.Prelude.{◌≡◌, Ok, Err, ◌∷◌, MatchOption, MatchResult, OnErr, IfOk};
+ghost use Rattle.plan.specs.Calls.{refuses};
 ghost use Rattle.planfile.specs.declared.faults.Flaw.TheVariants.{UnknownKind, OutOfOrder};
-ghost use Rattle.planfile.specs.Tests.{outset, past, fails, flaw, kind_here, record_here, Unknown, KindMisplaced, EndsInside, BodyMisplaced, NextIs};
+ghost use Rattle.planfile.specs.Tests.{outset, past, flaw, kind_here, record_here, Unknown, KindMisplaced, EndsInside, BodyMisplaced, NextIs};
 ghost use Rattle.planfile.specs.Readers.{standing};
 
 use crate::faults::{Cause, Fault, Flaw};
@@ -54,7 +55,7 @@ impl<'b> Reader<'b> {
     // Tests the kind of the next record.
     fn test_kind(&self, kind: u8) -> Result<(), Flaw>
         requires { kind ≡ kind_here self.now.bytes.now (standing self.now) }
-        ensures { let bytes = self.now.bytes.now in let s = standing self.now in fails (Unknown bytes s) UnknownKind (fails (KindMisplaced bytes s) OutOfOrder (λ r. r ≡ Ok tt)) result }
+        ensures { let bytes = self.now.bytes.now in let s = standing self.now in refuses (Unknown bytes s) UnknownKind (refuses (KindMisplaced bytes s) OutOfOrder (λ r. r ≡ Ok tt)) result }
     {
         if kind == 0 || kind > 4 {
             return Err(Flaw::UnknownKind);
@@ -68,7 +69,7 @@ impl<'b> Reader<'b> {
     // Tests where the next record stands among the joins and the cores.
     fn test_body(&self, next: Record) -> Result<(), Flaw>
         requires { next ≡ record_here self.now.bytes.now (standing self.now) }
-        ensures { fails (BodyMisplaced self.now.bytes.now (standing self.now)) OutOfOrder (λ r. r ≡ Ok tt) result }
+        ensures { refuses (BodyMisplaced self.now.bytes.now (standing self.now)) OutOfOrder (λ r. r ≡ Ok tt) result }
     {
         match next {
             Record::Join { first, second } if (first, second) <= (self.first, self.second) => Err(

@@ -1,6 +1,7 @@
 // Reading a whole file.
 ghost use Rattle.std.specs.Prelude.{◌≡◌, [], OnErr, MatchResult};
 ghost use Rattle.plan.specs.Contents.{contents, empty};
+ghost use Rattle.planfile.specs.Theorems.{FilesAreWritten, EveryFileIsReadOnce};
 ghost use Rattle.planfile.specs.Reads.{IsFile, IsRefused, Reads};
 
 use crate::entering::enter;
@@ -37,6 +38,8 @@ fn enter_all(bytes: &[u8], plan: &mut Plan, codes: &mut ArrayVec<u8, 8>) -> Resu
 pub fn read(bytes: &[u8], plan: &mut Plan, codes: &mut [u8; 8]) -> Result<(), Fault>
     ensures reads { Reads bytes.now result (contents plan.old) codes.old (contents plan.new) codes.new }
     ensures untouched { OnErr result ((plan.new ≡ plan.old) × (codes.new ≡ codes.old)) }
+    ensures written { FilesAreWritten }
+    ensures once { EveryFileIsReadOnce }
 {
     let mut fresh = Plan::new();
     let mut fresh_codes = ArrayVec::new();
