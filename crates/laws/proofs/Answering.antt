@@ -16,7 +16,7 @@ use Rattle.model.specs.declared.verdicts.Verdict.TheVariants.{Kept, Missed, Rows
 use Rattle.model.specs.Verdicts.{VerdictIs}
 use Rattle.model.proofs.Exists.{one_verdict}
 use Rattle.laws.specs.Checks.{Tables, Unfit, most_rows, MarksAfter, SameSizes, Checks}
-use Rattle.laws.specs.Histories.{changes, checks, registering, joining, seating, checking}
+use Rattle.laws.specs.Histories.{changes, checks, registering, joining, seating, checking, Event, History, Question, Lawful, question, Makes}
 use Rattle.laws.specs.Laws.{EveryCallAnswers}
 use Rattle.laws.proofs.Circles.{dec_either, chain_decided}
 use Rattle.laws.proofs.MarkRows.{marks_fit, row_of}
@@ -110,11 +110,17 @@ module _ (k : Contents) (ok : Sound k) (D : Choice) (was : Tables) where
 abbrev pub tables : ℕ → ℕ → ℕ → Tables
 tables front back marks = record { front = replicate front (row_of []); back = replicate back (row_of []); marks = replicate marks (row_of []) }
 
-pub every_call_answers : EveryCallAnswers
-every_call_answers h (registering x) law = let a = registers_some h.left x in (changes (registered x a.0), a.1, refl, a.2)
-every_call_answers h (joining x y) law = let a = joins_some h.left (after_sound h.events h.left h.after) x y in (changes (joined x y a.0), a.1, refl, a.2)
-every_call_answers h (seating n c) law = let a = reseats_some h.left n c in (changes (seats n c a.0), a.1, refl, a.2)
-every_call_answers h (checking D front back marks) law =
+some_answer : (h : History) (q : Question) → Lawful q → (event : Event) × (next : Contents) × (question event ≡ q) × Makes h.left event next
+some_answer h (registering x) law = let a = registers_some h.left x in (changes (registered x a.0), a.1, refl, a.2)
+some_answer h (joining x y) law = let a = joins_some h.left (after_sound h.events h.left h.after) x y in (changes (joined x y a.0), a.1, refl, a.2)
+some_answer h (seating n c) law = let a = reseats_some h.left n c in (changes (seats n c a.0), a.1, refl, a.2)
+some_answer h (checking D front back marks) law =
     let was = tables front back marks in
     let a = checks_some h.left (after_sound h.events h.left h.after) D was in
     (checks D was a.0 a.1, h.left, rw (length-replicate front (row_of []), length-replicate back (row_of []), length-replicate marks (row_of [])) refl, (law, a.2, refl))
+
+pub every_call_answers : EveryCallAnswers
+every_call_answers = record {
+  calls = some_answer;
+  any_tables = λ h D was law. (let a = checks_some h.left (after_sound h.events h.left h.after) D was in (a.0, a.1, (law, a.2, refl)));
+}

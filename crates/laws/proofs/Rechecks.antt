@@ -1,5 +1,5 @@
 -- Two checks of one plan under one discipline, with equal row counts, answer the same.
-use Rattle.std.proofs.Common.{◌≡◌, ◌⊎◌, length, Ok, Err, Result, sym, refl, ap, ◌∙◌, subst, inl, inr}
+use Rattle.std.proofs.Common.{◌≡◌, ◌⊎◌, length, Ok, Err, Result, sym, refl, ap, ◌∙◌, subst}
 use Rattle.order.specs.Laws.{Choice}
 use Rattle.terms.specs.declared.refusals.Refusal.{Refusal}
 use Rattle.terms.specs.declared.refusals.Refusal.TheVariants.{UnfitTables}

@@ -1,13 +1,7 @@
 -- What calls leave is sound, and is one for each history.
-use Rattle.std.proofs.Common.{◌≡◌, ℕ, ◌-◌, ◌<◌, ◌≤◌, ◌≢◌, ◌⊎◌, List, length, Ok, Err, is_ok, sym, refl, ap, ◌∙◌, subst, subst₂, inl, inr, true≢false, arith}
-use Rattle.std.proofs.lemmas.Bool.{cases_eq, cases_lt}
+use Rattle.std.proofs.Common.{◌≡◌, List, length, Ok, Err, sym, refl, ap, ◌∙◌, subst, subst₂, arith}
 use Rattle.std.proofs.lemmas.List.{length_push, same_from_push}
-use Rattle.terms.specs.declared.handlers.Handler.{Handler}
-use Rattle.terms.specs.declared.refusals.Refusal.{Refusal}
-use Rattle.plan.specs.Rows.{longest_round}
-use Rattle.plan.specs.Joins.{Chain, one, more}
-use Rattle.plan.specs.Contents.{Contents, count, at, Known, round, empty, Sound}
-use Rattle.plan.specs.Calls.{added, Takes, MayJoin, MaySeat, Registers, Joins, Reseats}
+use Rattle.plan.specs.Contents.{Contents, Sound}
 use Rattle.plan.specs.Histories.{Call, registered, joined, reseated as seats}
 use Rattle.plan.specs.Histories.{Makes as Changes}
 use Rattle.plan.proofs.Answered.{one_answer_each}

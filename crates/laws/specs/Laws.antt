@@ -1,12 +1,12 @@
 -- What is promised of checks, and of every call, in any mixture of calls on a plan.
-use Rattle.std.specs.Prelude.{◌≡◌, ℕ, ◌+◌, ◌*◌, ◌<◌, ◌≤◌, ◌⊎◌, ◌↔◌, List, ◌∷◌, ◌++◌, map, length, take, Ok, Err, Result}
+use Rattle.std.specs.Prelude.{◌≡◌, ℕ, ◌+◌, ◌*◌, ◌<◌, ◌≤◌, ◌⊎◌, ◌↔◌, List, ◌∷◌, ◌++◌, map, length, take, Ok, Result}
 use Rattle.std.specs.List.{Contains as Has}
 use Rattle.gather.specs.Levels.{Once}
-use Rattle.order.specs.Laws.{Choice}
+use Rattle.order.specs.Laws.{Choice, IsLawfulChoice}
 use Rattle.terms.specs.declared.handlers.Handler.{Handler}
 use Rattle.terms.specs.declared.refusals.Refusal.{Refusal}
 use Rattle.plan.specs.Contents.{Contents}
-use Rattle.plan.specs.Histories.{registered, joined, reseated}
+use Rattle.plan.specs.Histories.{registered}
 use Rattle.model.specs.declared.verdicts.Rows.{Rows}
 use Rattle.model.specs.declared.verdicts.Rows.TheVariants.{Working, Marks}
 use Rattle.model.specs.declared.verdicts.Verdict.{Verdict}
@@ -15,6 +15,7 @@ use Rattle.model.specs.Runs.{StateAt, Misses, NeverLate, EarliestMiss, mark, Mar
 use Rattle.model.specs.Verdicts.{Outnumber, Closes}
 use Rattle.step.specs.declared.states.State.{State}
 use Rattle.fronts.specs.Fronts.{Holds}
+use Rattle.laws.specs.Example.{asks, answers}
 use Rattle.laws.specs.Checks.{Tables, Checks}
 use Rattle.laws.specs.Histories.{Event, changes, checks, Makes, After, History, Among, Question, question, Lawful, answer, taken, Alike}
 
@@ -98,10 +99,10 @@ QuestionsDecide =
     (h g : History) → map question h.events ≡ map question g.events
     → (map answer h.events ≡ map answer g.events) × (h.left ≡ g.left)
 
--- every history can go on with any call, and has an answer to it
-abbrev pub EveryCallAnswers : Type 0
-EveryCallAnswers =
-    (h : History) (q : Question) → Lawful q → (event : Event) × (next : Contents) × (question event ≡ q) × Makes h.left event next
+-- every history can go on with any call, and a check with any tables, and has an answer to it
+pub record EveryCallAnswers : Type 0 where
+  pub calls : (h : History) (q : Question) → Lawful q → (event : Event) × (next : Contents) × (question event ≡ q) × Makes h.left event next
+  pub any_tables : (h : History) (D : Choice) (was : Tables) → IsLawfulChoice D → (r : Result Verdict Refusal) × (is : Tables) × Makes h.left (checks D was r is) h.left
 
 -- the n-th accepted register answers n
 abbrev pub RegistersCount : Type 0
@@ -120,23 +121,9 @@ AlikeChecksAnswerAlike =
 
 -- ---- none of this is empty
 
--- each kind of answer comes
-pub record EachKind (events : List Event) : Type 0 where
-  pub register_taken : (x : Handler) × (n : ℕ) × Has events (changes (registered x (Ok n)))
-  pub register_refused : (x : Handler) × (e : Refusal) × Has events (changes (registered x (Err e)))
-  pub join_taken : (a : ℕ) × (b : ℕ) × Has events (changes (joined a b (Ok tt)))
-  pub join_refused : (a : ℕ) × (b : ℕ) × (e : Refusal) × Has events (changes (joined a b (Err e)))
-  pub reseat_taken : (n : ℕ) × (c : ℕ) × Has events (changes (reseated n c (Ok tt)))
-  pub reseat_refused : (n : ℕ) × (c : ℕ) × (e : Refusal) × Has events (changes (reseated n c (Err e)))
-  pub kept : (D : Choice) × (was : Tables) × (is : Tables) × (k : ℕ) × (c : ℕ) × Has events (checks D was (Ok (Kept k c)) is)
-  pub missed : (D : Choice) × (was : Tables) × (is : Tables) × (t : ℕ) × (n : ℕ) × Has events (checks D was (Ok (Missed t n)) is)
-  pub working_short : (D : Choice) × (was : Tables) × (is : Tables) × (t : ℕ) × Has events (checks D was (Ok (RowsShort Working t)) is)
-  pub marks_short : (D : Choice) × (was : Tables) × (is : Tables) × (t : ℕ) × Has events (checks D was (Ok (RowsShort Marks t)) is)
-  pub check_refused : (D : Choice) × (was : Tables) × (is : Tables) × (e : Refusal) × Has events (checks D was (Err e) is)
-
--- some history has every kind of answer
+-- there is a history with each kind of answer: it asks and answers this
 abbrev pub SomeHistoryHasEachKind : Type 0
-SomeHistoryHasEachKind = (h : History) × EachKind h.events
+SomeHistoryHasEachKind = (h : History) × (map question h.events ≡ asks) × (map answer h.events ≡ answers)
 
 -- ---- all of it
 

@@ -1,3 +1,4 @@
 pub mod Checks
 pub mod Histories
+pub mod Example
 pub mod Laws

@@ -1,5 +1,5 @@
 -- Reading and entering one record: each has one answer.
-use Rattle.std.proofs.Common.{◌≡◌, ℕ, ◌⊎◌, List, Ok, Err, Result, sym, refl, ap, ◌∙◌, inl, inr}
+use Rattle.std.proofs.Common.{◌≡◌, ℕ, List, Ok, Err, Result, sym, refl, ap, ◌∙◌}
 use Rattle.plan.specs.Contents.{Contents}
 use Rattle.plan.proofs.Answered.{one_answer, one_answer_each}
 use Rattle.planfile.specs.declared.faults.Cause.{Cause}

@@ -1,5 +1,5 @@
 -- Reading a whole file.
-use Rattle.std.specs.Prelude.{◌≡◌, ℕ, ◌<◌, ◌≤◌, ◌⊎◌, List, [], length, Ok, Err, Result}
+use Rattle.std.specs.Prelude.{◌≡◌, ℕ, ◌<◌, ◌⊎◌, List, [], length, Ok, Err, Result}
 use Rattle.plan.specs.Contents.{Contents, empty}
 use Rattle.planfile.specs.declared.faults.Cause.{Cause}
 use Rattle.planfile.specs.declared.faults.Flaw.TheVariants.{OutOfOrder}

@@ -1,5 +1,5 @@
 -- What is proved of files.
-use Rattle.std.specs.Prelude.{◌≡◌, ℕ, ◌<◌, ◌≤◌, ◌↔◌, ◌⊎◌, List, length, slice_index}
+use Rattle.std.specs.Prelude.{◌≡◌, ℕ, ◌<◌, ◌≤◌, ◌↔◌, List, length, slice_index}
 use Rattle.std.specs.List.{Contains as Has}
 use Rattle.plan.specs.Contents.{Contents, Sound}
 use Rattle.planfile.specs.declared.faults.Fault.{Fault}
