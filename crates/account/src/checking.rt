@@ -105,7 +105,7 @@ impl Checked {
         })
     }
 
-    // The marks, where the verdict is kept: the first rows of the mark table.
+    // The marks, where the verdict is kept: as many rows as it counts, from the front.
     pub(crate) fn marks(&self) -> &[State]
         ensures { result.now ≡ counted self.now.verdict self.now.tables.marks.items }
     {

@@ -18,12 +18,12 @@ use terms::refusals::Refusal;
 // The most rows that a table may have.
 const MOST_ROWS: usize = 65_535;
 
-/// What is true of every run of the plan under the discipline: the verdict, for the rows of the tables lent. `front` and
-/// `back` each hold the states of one time, and `marks` those at mark times; a row holds a state where its first places
-/// are the times left of the plan's handlers and the others 0. Whatever the rows hold before, the answer is the same.
+/// The verdict on every run of the plan under the discipline, for the rows of the tables lent. `front` and `back` each
+/// hold the states of one time, and `marks` those at mark times; a row holds a state where its first places are the times
+/// left of the plan's handlers and the others 0. Whatever the rows hold before, the answer is the same.
 ///
-/// After `Kept` the marks stand at the front of `marks`, one row each, in whatever order, and no row behind them has been
-/// written. All else is left free: `front` and `back` once there is a verdict, and `marks` after another one. A check is
+/// After `Kept` the marks stand at the front of `marks`, one row each, in whatever order, and every row behind them is what
+/// it was. All else is left free: `front` and `back` once there is a verdict, and `marks` after another one. A check is
 /// refused where one of `front` and `back` is longer, or a table has more than 65,535 rows; then every row is what it was.
 pub fn check<D: Discipline>(
     plan: &Plan,
