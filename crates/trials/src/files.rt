@@ -146,7 +146,10 @@ fn what_is_read_is_written(rt: HostRuntime) -> Result<(), Fail> {
     assert_eq!(rt; buffer, FILE);
     assert_eq!(rt; write(&plan, &codes, &mut buffer[..47]), Err(Flaw::NoRoom));
     codes[7] = 4;
-    assert_eq!(rt; write(&plan, &codes, &mut buffer[..47]), Err(Flaw::NoSuchCode));
+    assert_eq!(rt;
+        write(&plan, &codes, &mut buffer[..47]),
+        Err(Flaw::NoSuchCode)
+    );
     assert_eq!(rt; buffer, FILE);
     Ok(())
 }
