@@ -27,14 +27,14 @@ fn spread<D: Discipline, W: Table<Item = State>>(
     plan: &Plan,
     d: &D,
     t: u64,
-    state: State,
+    state: &State,
     back: &mut W,
 ) -> Result<(), NoRoom>
-    ensures joins { Joins (StepsTo (contents plan.now) (D.first d.now) t state) (W.room back.old) (W.members back.old) result (W.members back.new) }
+    ensures joins { Joins (StepsTo (contents plan.now) (D.first d.now) t state.now) (W.room back.old) (W.members back.old) result (W.members back.new) }
     ensures same_room { W.room back.new ≡ W.room back.old }
     ensures frame { W.extended back.old back.new }
 {
-    for next in Successors::of(plan, d, t, state) {
+    for next in Successors::of(plan, d, t, *state) {
         match back.insert(&next) {
             Inserted::New | Inserted::There => {}
             Inserted::Full => return Err(NoRoom),
@@ -58,7 +58,7 @@ pub fn advance<D: Discipline, W: Table<Item = State>>(
 {
     back.clear();
     for state in front.rows() {
-        spread(plan, d, t, *state, back)?;
+        spread(plan, d, t, state, back)?;
     }
     Ok(())
 }
