@@ -1,5 +1,5 @@
 -- The records of the handlers are read.
-use Rattle.std.proofs.Common.{◌≡◌, ℕ, ◌≤◌, false, List, [], ◌∷◌, ◌++◌, length, sym, ap, ◌∙◌, subst, arith}
+use Rattle.std.proofs.Common.{◌≡◌, ℕ, ◌≤◌, false, List, [], ◌∷◌, ◌++◌, length, refl, sym, ap, ◌∙◌, subst, arith}
 use Rattle.std.specs.List.{flat_map, Contains as Has}
 use Rattle.std.proofs.lemmas.List.{append_assoc, append-nil, length-append, get_or_default}
 use Rattle.std.proofs.lemmas.List.Elements.{Contains-append_left, Contains-append_right}
@@ -7,9 +7,9 @@ use Rattle.gather.proofs.Counting.{has_here}
 use Rattle.terms.specs.declared.handlers.Handler.{Handler}
 use Rattle.plan.specs.Rows.{blank, IsInRange, round_of, longest_round}
 use Rattle.plan.specs.Contents.{Contents, Sound}
-use Rattle.plan.specs.Calls.{Takes}
+use Rattle.plan.specs.Calls.{added, Takes}
 use Rattle.plan.proofs.Rounds.{Recurring, round_least}
-use Rattle.planfile.specs.Files.{handler_record}
+use Rattle.planfile.specs.Files.{handler_record, handler_records}
 use Rattle.planfile.specs.Tests.{Standing}
 use Rattle.planfile.proofs.FiledRecords.{onward}
 use Rattle.planfile.proofs.FiledSteps.{Left, handler_read}
@@ -25,11 +25,11 @@ pub record Fresh (s : Standing) : Type 0 where
   pub second : s.second ≡ 0
   pub cores : s.cores ≡ 0
 
--- so it is when all handlers of k have come, and this is left
-pub record Handled (bytes : List ℕ) (k : Contents) (left : List ℕ) : Type 0 where
+-- so it is when only handlers have come, the plan holds these contents, and this is left
+pub record Handled (bytes : List ℕ) (l : Contents) (left : List ℕ) : Type 0 where
   pub stands : Standing
   pub fresh : Fresh stands
-  pub now : Left bytes stands (alone k.handlers) [] left
+  pub now : Left bytes stands l [] left
 
 module _ (k : Contents) (sound : Sound k) where
   in_range : (h : Handler) → Has k.handlers h → IsInRange h
@@ -54,10 +54,25 @@ module _ (k : Contents) (sound : Sound k) where
         short = shorter (done ++ h ∷ []) (λ x m. subst (λ l. Has l x) (sym longer) (Contains-append_left (done ++ h ∷ []) todo x m));
       }
 
-  pub handlers_read : (bytes : List ℕ) (todo done : List Handler) (rest : List ℕ) (s : Standing) → k.handlers ≡ done ++ todo → Fresh s
-      → Left bytes s (alone done) [] (flat_map handler_record todo ++ rest) → Handled bytes k rest
-  handlers_read bytes [] done rest s e fresh l = record { stands = s; fresh = fresh; now = subst (λ hs. Left bytes s (alone hs) [] rest) (sym (e ∙ append-nil done)) l }
-  handlers_read bytes (h ∷ todo) done rest s e fresh l =
-      handlers_read bytes todo (done ++ h ∷ []) rest (onward bytes s 9 1 s.first s.second s.cores) (e ∙ sym (append_assoc done (h ∷ []) todo))
-      (record { kind = omega arith; first = fresh.first; second = fresh.second; cores = fresh.cores })
-      (handler_read bytes s (alone done) [] (flat_map handler_record todo ++ rest) h l fresh.kind (takes done todo h e))
+  -- whatever takes such handlers, each from its own text, takes all of them
+  module _ (text_of : Handler → List ℕ) (Come : Contents → List ℕ → Type 0)
+      (take : (l : Contents) (h : Handler) (rest : List ℕ) → Has k.handlers h → Takes l h → Come l (text_of h ++ rest) → Come (added l h) rest) where
+    pub handlers_come : (todo done : List Handler) (rest : List ℕ) → k.handlers ≡ done ++ todo → Come (alone done) (flat_map text_of todo ++ rest)
+        → Come (alone k.handlers) rest
+    handlers_come [] done rest e come = subst (λ hs. Come (alone hs) rest) (sym (e ∙ append-nil done)) come
+    handlers_come (h ∷ todo) done rest e come =
+        let others = flat_map text_of todo in
+        handlers_come todo (done ++ h ∷ []) rest (e ∙ sym (append_assoc done (h ∷ []) todo))
+        (take (alone done) h (others ++ rest) (subst (λ l. Has l h) (sym e) (Contains-append_right done (h ∷ todo) h (has_here h todo))) (takes done todo h e)
+        (subst (Come (alone done)) (append_assoc (text_of h) others rest) come))
+
+  pub handlers_read : (bytes rest : List ℕ) → Handled bytes (alone []) (handler_records k ++ rest) → Handled bytes (alone k.handlers) rest
+  handlers_read bytes rest h = handlers_come handler_record (Handled bytes) take k.handlers [] rest refl h
+    where
+      take : (l : Contents) (h : Handler) (rest : List ℕ) → Has k.handlers h → Takes l h → Handled bytes l (handler_record h ++ rest)
+          → Handled bytes (added l h) rest
+      take l h rest among takes p = record {
+        stands = onward bytes p.stands 9 1 p.stands.first p.stands.second p.stands.cores;
+        fresh = record { kind = omega arith; first = p.fresh.first; second = p.fresh.second; cores = p.fresh.cores };
+        now = handler_read bytes p.stands l [] rest h p.now p.fresh.kind takes;
+      }

@@ -21,7 +21,7 @@ written_is_read k codes sound are =
     let begun : Left bytes outset (alone []) [] (handler_records k ++ (join_records k ++ cores)) =
     record { reached = none; rest = parts (handler_records k) (join_records k) (core_records 1 codes) (4 ∷ []) } in
     let fresh : Fresh outset = record { kind = omega arith; first = refl; second = refl; cores = refl } in
-    let handled = handlers_read k sound bytes k.handlers [] (join_records k ++ cores) outset refl fresh begun in
+    let handled = handlers_read k sound bytes (join_records k ++ cores) (record { stands = outset; fresh = fresh; now = begun }) in
     let joined = joins_read k sound bytes cores handled in
     cores_read bytes k codes [] joined.stands (omega (arith, joined.kind)) (omega (arith, joined.cores, are.eight)) are.each
     (subst (λ n. Left bytes joined.stands k [] (core_records (suc n) codes ++ 4 ∷ [])) (sym joined.cores) joined.now)

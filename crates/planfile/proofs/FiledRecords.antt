@@ -27,7 +27,7 @@ module _ (bytes : List ℕ) (s : Standing) where
     pub few : kind_here bytes s ≡ 3 → s.cores < 8
     pub all : kind_here bytes s ≡ 4 → 8 ≤ s.cores
     pub inside : s.place + suc (body bytes s) ≤ length bytes
-    pub later : kind_here bytes s ≡ 2 → Sooner s.first s.second (byte bytes s 1) (byte bytes s 2)
+    pub later : kind_here bytes s ≡ 2 → s.kind ≡ 2 → Sooner s.first s.second (byte bytes s 1) (byte bytes s 2)
     pub turn : kind_here bytes s ≡ 3 → byte bytes s 1 ≡ suc s.cores
 
   not_below : (x y : ℕ) → ¬ (x < y) → y ≤ x
@@ -51,7 +51,7 @@ module _ (bytes : List ℕ) (s : Standing) where
       misplaced (inr (inr q)) = omega (arith, q.1, p.all q.0)
 
       body_misplaced : ¬ BodyMisplaced bytes s
-      body_misplaced (inl q) = apart (p.later q.0) q.1
+      body_misplaced (inl q) = apart (p.later q.0 q.1) q.2
         where
           apart : Sooner s.first s.second (byte bytes s 1) (byte bytes s 2)
               → (byte bytes s 1 < s.first) ⊎ ((byte bytes s 1 ≡ s.first) × (byte bytes s 2 ≤ s.second)) → ⊥
@@ -75,7 +75,7 @@ module _ (bytes : List ℕ) (s : Standing) where
         few = λ e. let g = not_below 7 s.cores (λ l. placed.0 (inr (inl (e, l)))) in omega (arith, g);
         all = λ e. not_below s.cores 8 (λ l. placed.0 (inr (inr (e, l))));
         inside = not_below (length bytes) (s.place + suc (body bytes s)) inside.0;
-        later = λ e. later (λ q. ordered.0 (inl (e, q)));
+        later = λ e was. later (λ q. ordered.0 (inl (e, was, q)));
         turn = λ e. elim (cases_eq (byte bytes s 1) (suc s.cores)) [ inl same ↦ same | inr ne ↦ absurd (ordered.0 (inr (e, ne))) ];
       }
     where

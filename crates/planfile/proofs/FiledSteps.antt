@@ -57,7 +57,7 @@ module _ (bytes : List ℕ) where
                 few = λ e. omega (arith, e, kind);
                 all = λ e. absurd (omega (arith, e, kind));
                 inside = rw shape.long (enough s left 9 l.rest (omega arith));
-                later = λ e. absurd (omega (arith, e, kind));
+                later = λ e was. absurd (omega (arith, e, kind));
                 turn = λ e. absurd (omega (arith, e, kind));
               })
               shape (Ok (count k + 1), subst (λ x. Registers k x (Ok (count k + 1)) (added k h)) (sym same) (taken_registers k h takes), refl, refl);
@@ -85,7 +85,7 @@ module _ (bytes : List ℕ) where
                 few = λ e. omega (arith, e, kind);
                 all = λ e. absurd (omega (arith, e, kind));
                 inside = rw shape.long (enough s left 2 l.rest (omega arith));
-                later = λ e. rw (first, second) later;
+                later = λ e was. rw (first, second) later;
                 turn = λ e. absurd (omega (arith, e, kind));
               })
               shape (Ok tt, taken_joins k a b may, refl, refl);
@@ -110,7 +110,7 @@ module _ (bytes : List ℕ) where
                 few = λ e. few;
                 all = λ e. absurd (omega (arith, e, kind));
                 inside = rw shape.long (enough s left 2 l.rest (omega arith));
-                later = λ e. absurd (omega (arith, e, kind));
+                later = λ e was. absurd (omega (arith, e, kind));
                 turn = λ e. at 1;
               })
               shape (subst (λ c. IsCode c × (codes ++ code ∷ [] ≡ codes ++ c ∷ [])) (sym (at 2)) (is, refl), refl);
@@ -132,7 +132,7 @@ module _ (bytes : List ℕ) where
                 few = λ e. absurd (omega (arith, e, kind));
                 all = λ e. all;
                 inside = rw shape.long (enough s left 0 l.rest (omega arith));
-                later = λ e. absurd (omega (arith, e, kind));
+                later = λ e was. absurd (omega (arith, e, kind));
                 turn = λ e. absurd (omega (arith, e, kind));
               })
               shape (refl, refl, refl);

@@ -2,7 +2,7 @@
 use Rattle.std.proofs.Common.{◌≡◌, ℕ, suc, ◌+◌, ◌≤◌, true, false, ◌&&◌, List, [], ◌∷◌, ◌++◌, length, drop, Ok, Err, Result, is_ok, sym, refl, ap, ◌∙◌, subst, inl, inr, true≢false, arith}
 use Rattle.std.specs.Prelude.{◌==◌}
 use Rattle.std.specs.List.{Contains as Has}
-use Rattle.std.proofs.lemmas.Bool.{eqb-true, or_cases, and_parts}
+use Rattle.std.proofs.lemmas.Bool.{cases_eq, eqb-true, or_cases, and_parts}
 use Rattle.std.proofs.lemmas.List.{append_assoc, length_push}
 use Rattle.std.proofs.lemmas.List.Elements.{Contains-push_cases}
 use Rattle.terms.specs.declared.handlers.Handler.{Handler}
@@ -125,7 +125,11 @@ module _ (bytes : List ℕ) (small : AreBytes bytes) where
         }
       where
         last : Last k (byte bytes s 1) (byte bytes s 2)
-        last x y j = sooner_on (suc x) (suc y) s.first s.second (byte bytes s 1) (byte bytes s 2) (told.earlier x y j) (p.later kind)
+        last x y j =
+            elim (cases_eq s.kind 2) [
+              | inl was ↦ sooner_on (suc x) (suc y) s.first s.second (byte bytes s 1) (byte bytes s 2) (told.earlier x y j) (p.later kind was)
+              | inr first ↦ absurd (true≢false (sym j ∙ told.straight (omega (arith, p.rises, kind, first)) x y))
+            ]
 
         earlier : (x y : ℕ) → (with_join k (byte bytes s 1) (byte bytes s 2)).joined x y ≡ true → Sooner (suc x) (suc y) (byte bytes s 1) (suc (byte bytes s 2))
         earlier x y j =

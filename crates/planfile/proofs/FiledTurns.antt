@@ -1,15 +1,11 @@
--- The joins of a plan have their turns in a file, and the record of the join whose turn it is is read.
-use Rattle.std.proofs.Common.{◌≡◌, ℕ, suc, ◌+◌, ◌-◌, ◌*◌, ◌<◌, ◌≤◌, Bool, true, false, ◌&&◌, List, [], ◌++◌, sym, refl, ap₂, subst, inl, inr, arith}
+-- The joins of a plan have their turns, by the first number and then the second, and each is taken in its turn.
+use Rattle.std.proofs.Common.{◌≡◌, ℕ, suc, ◌+◌, ◌-◌, ◌*◌, ◌<◌, ◌≤◌, Bool, true, false, ◌&&◌, List, ◌++◌, sym, refl, ap₂, subst, inl, inr, arith}
 use Rattle.std.specs.Prelude.{◌==◌}
 use Rattle.std.proofs.lemmas.Bool.{cases_lt, le-leb, eqb-true, eq-eqb, or_cases, or_left, or_right, and_parts, and_from}
 use Rattle.terms.specs.declared.handlers.Handler.{Handler}
 use Rattle.plan.specs.Joins.{Chain, one, more}
 use Rattle.plan.specs.Contents.{Contents, count, at, joins, Sound}
 use Rattle.plan.specs.Calls.{with_join, ClosesCircle, MayJoin}
-use Rattle.planfile.specs.Files.{join_record}
-use Rattle.planfile.specs.Tests.{Standing}
-use Rattle.planfile.proofs.FiledRecords.{Sooner, onward}
-use Rattle.planfile.proofs.FiledSteps.{Left, join_read}
 
 -- whether numbers are joined, by places
 pub joins_is : (k : Contents) (a b : ℕ) → 1 ≤ a → 1 ≤ b → joins k a b ≡ k.joined (a - 1) (b - 1)
@@ -30,6 +26,12 @@ both_or_none false false f g = refl
 abbrev pub turn : ℕ → ℕ → ℕ
 turn a b = 64 * a + b
 
+-- what comes by turns may wait for a later turn, and takes a join in its turn from the text of it
+pub record TakesJoins (text_of : ℕ → ℕ → List ℕ) (Come : ℕ → Contents → List ℕ → Type 0) : Type 0 where
+  pub waits : (m n : ℕ) (l : Contents) (left : List ℕ) → m ≤ n → Come m l left → Come n l left
+  pub takes : (a b : ℕ) (l : Contents) (rest : List ℕ) → (1 ≤ a) × (a ≤ 64) → (1 ≤ b) × (b ≤ 64) → MayJoin l a b
+      → Come (turn a b) l (text_of a b ++ rest) → Come (turn a b + 1) (with_join l a b) rest
+
 module _ (k : Contents) (sound : Sound k) where
   -- the plan has the handlers of k and those joins of k whose turn is before m
   pub record Upto (m : ℕ) (l : Contents) : Type 0 where
@@ -37,19 +39,11 @@ module _ (k : Contents) (sound : Sound k) where
     pub only : (x y : ℕ) → l.joined x y ≡ true → (k.joined x y ≡ true) × (turn (suc x) (suc y) < m)
     pub each : (x y : ℕ) → k.joined x y ≡ true → turn (suc x) (suc y) < m → l.joined x y ≡ true
 
-  -- the last join was before m
-  pub record Before (m : ℕ) (s : Standing) : Type 0 where
-    pub kind : s.kind ≤ 2
-    pub last : turn s.first s.second < m
-    pub cores : s.cores ≡ 0
-
-  -- the reader has come to the turn m, and this is left of the bytes
-  pub record Joined (bytes : List ℕ) (m : ℕ) (left : List ℕ) : Type 0 where
-    pub stands : Standing
+  -- the turn m has come: a plan has the joins before it, and this is left, for whatever takes joins one after another
+  pub record Joined (Come : ℕ → Contents → List ℕ → Type 0) (m : ℕ) (left : List ℕ) : Type 0 where
     pub contents : Contents
-    pub now : Left bytes stands contents [] left
+    pub now : Come m contents left
     pub upto : Upto m contents
-    pub before : Before m stands
 
   -- handlers of a plan have numbers up to 64
   pub low : (x y : ℕ) → k.joined x y ≡ true → (suc x ≤ count k) × (suc y ≤ count k) × (count k ≤ 64)
@@ -66,15 +60,14 @@ module _ (k : Contents) (sound : Sound k) where
     each = λ x y j lt. elim (cases_lt (turn (suc x) (suc y)) m) [ inl e ↦ u.each x y j e | inr g ↦ absurd (omega (arith, none x y j g, lt)) ];
   }
 
-  -- such turns pass by
-  pub skipped : (bytes : List ℕ) (m n : ℕ) (left : List ℕ) → m ≤ n → NoTurn m n → Joined bytes m left → Joined bytes n left
-  skipped bytes m n left le none p = record {
-    stands = p.stands;
-    contents = p.contents;
-    now = p.now;
-    upto = skip m n p.contents le none p.upto;
-    before = record { kind = p.before.kind; last = omega (arith, p.before.last, le); cores = p.before.cores };
-  }
+  module _ (text_of : ℕ → ℕ → List ℕ) (Come : ℕ → Contents → List ℕ → Type 0) (taking : TakesJoins text_of Come) where
+    -- such turns pass by
+    pub skipped : (m n : ℕ) (left : List ℕ) → m ≤ n → NoTurn m n → Joined Come m left → Joined Come n left
+    skipped m n left le none p = record {
+      contents = p.contents;
+      now = taking.waits m n p.contents left le p.now;
+      upto = skip m n p.contents le none p.upto;
+    }
 
   -- only the numbers a and b have their turn
   pub same_turn : (a b x y : ℕ) → 1 ≤ a → 1 ≤ b → b ≤ 64 → k.joined x y ≡ true → turn (suc x) (suc y) ≡ turn a b → (x ≡ a - 1) × (y ≡ b - 1)
@@ -128,19 +121,13 @@ module _ (k : Contents) (sound : Sound k) where
                 | inr g ↦ or_right (l.joined x y) (suc x == a && suc y == b) (is_new x y (same_turn a b x y la lb high i (omega (arith, lt, g))))
               ]
 
-    later : (s : Standing) → Before (turn a b) s → Sooner s.first s.second a b
-    later s p =
-        elim (cases_lt s.first a) [
-          | inl e ↦ inl e
-          | inr g ↦ inr (omega (arith, g, p.last, high), omega (arith, g, p.last, high))
-        ]
-
     -- the join whose turn it is enters
-    pub joined_read : (bytes rest : List ℕ) → Joined bytes (turn a b) (join_record a b ++ rest) → Joined bytes (turn a b + 1) rest
-    joined_read bytes rest p = record {
-      stands = onward bytes p.stands 2 2 a b p.stands.cores;
-      contents = with_join p.contents a b;
-      now = join_read bytes p.stands p.contents [] rest a b p.now p.before.kind (later p.stands p.before) (may p.contents p.upto);
-      upto = entered p.contents p.upto;
-      before = record { kind = omega arith; last = omega arith; cores = p.before.cores };
-    }
+    pub joined_read : (text_of : ℕ → ℕ → List ℕ) (Come : ℕ → Contents → List ℕ → Type 0) → TakesJoins text_of Come → (rest : List ℕ)
+        → Joined Come (turn a b) (text_of a b ++ rest) → Joined Come (turn a b + 1) rest
+    joined_read text_of Come taking rest p =
+        let q = low (a - 1) (b - 1) j in
+        record {
+          contents = with_join p.contents a b;
+          now = taking.takes a b p.contents rest (la, omega (arith, la, q.0, q.2)) (lb, high) (may p.contents p.upto) p.now;
+          upto = entered p.contents p.upto;
+        }

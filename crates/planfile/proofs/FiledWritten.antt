@@ -75,7 +75,7 @@ module _ (bytes : List ℕ) (small : AreBytes bytes) where
             let m = enters_as 0 End t shape in
             moved t k codes shape.after m.1 m.2 (told_end bytes small s k codes told going p e)
 
-  told : {s : Standing} {k : Contents} {codes : List ℕ} → Reached bytes s k codes → Told bytes small s k codes
+  pub told : {s : Standing} {k : Contents} {codes : List ℕ} → Reached bytes s k codes → Told bytes small s k codes
   told none = told_first bytes small
   told (one_more {s} {k} {next} {codes} {more} r before going is enters) = told_next s k next codes more r (told before) going is enters
 

@@ -13,11 +13,11 @@ pub at_most_each : {X : Type 0} (f : X → List ℕ) (most : ℕ) → ((x : X) �
 at_most_each f most each [] = omega arith
 at_most_each f most each (x ∷ xs) = omega (arith, length-append (f x) (flat_map f xs), each x, at_most_each f most each xs, suc-mul (length xs) most)
 
-handlers_length : (hs : List Handler) → length (flat_map handler_record hs) ≡ 10 * length hs
+pub handlers_length : (hs : List Handler) → length (flat_map handler_record hs) ≡ 10 * length hs
 handlers_length [] = omega arith
 handlers_length (h ∷ hs) = omega (arith, length-append (handler_record h) (flat_map handler_record hs), handlers_length hs)
 
-cores_length : (c : ℕ) (codes : List ℕ) → length (core_records c codes) ≡ 3 * length codes
+pub cores_length : (c : ℕ) (codes : List ℕ) → length (core_records c codes) ≡ 3 * length codes
 cores_length c [] = omega arith
 cores_length c (code ∷ codes) = omega (arith, length-append (core_record c code) (core_records (suc c) codes), cores_length (suc c) codes)
 
@@ -120,7 +120,7 @@ module _ (k : Contents) (sound : Sound k) where
       three = elim (joins k a a) as (λ t. (length (cond t (join_record a a) []) ≡ 0) ⊎ (length (cond t (join_record a a) []) ≡ 3)) [ true ↦ inr refl | false ↦ inl refl ]
 
   -- 64 handlers make 2016 pairs
-  most_joins : length (join_records k) ≤ 6048
+  pub most_joins : length (join_records k) ≤ 6048
   most_joins =
       let grow : pairs (count k) ≤ pairs (64 - count k + count k) = pairs_grow (64 - count k) (count k) in
       let all : 64 - count k + count k ≡ 64 = omega (arith, sound.few) in

@@ -10,6 +10,7 @@ pub mod FiledSteps
 pub mod FiledTold
 pub mod FiledTurns
 pub mod FiledWritten
+pub mod FirstBytes
 pub mod Lengths
 pub mod LengthsReached
 pub mod Outcomes

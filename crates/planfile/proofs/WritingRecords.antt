@@ -1,8 +1,9 @@
 -- The records of a file, each by the number that it is of.
 use Rattle.std.proofs.Common.{◌≡◌, ℕ, suc, ◌+◌, ◌-◌, ◌<◌, ◌&&◌, nat_le, true, cond, List, [], ◌∷◌, ◌++◌, length, get_or, flat_map, le-leb, refl, sym, ap, ap₂, add-zero, add-one, ◌∙◌, arith}
 use Rattle.std.specs.List.{range_with_len}
+use Rattle.terms.specs.declared.handlers.Handler.{Handler}
 use Rattle.plan.specs.Rows.{blank}
-use Rattle.plan.specs.Contents.{Contents, at, count}
+use Rattle.plan.specs.Contents.{Contents, at, count, known}
 use Rattle.planfile.specs.Files.{handler_record, handler_records, numbers, core_record, core_records}
 use Rattle.planfile.specs.Writes.{record_if_known}
 
@@ -13,12 +14,16 @@ along_numbers g d f [] a same = refl
 along_numbers g d f (x ∷ xs) a same =
     ap₂ (λ l m. l ++ m) (ap f (sym (add-zero a)) ∙ same 0 (omega arith)) (along_numbers g d f xs (a + 1) (λ i l. ap f (omega arith) ∙ same (suc i) (omega (arith, l))))
 
-pub handlers_by_number : (k : Contents) → flat_map (record_if_known k) (numbers k) ≡ handler_records k
-handlers_by_number k = along_numbers handler_record blank (record_if_known k) k.handlers 1 (λ i l.
+-- what is written of each handler, by the numbers
+pub by_number : (g : Handler → List ℕ) (k : Contents) → flat_map (λ n. cond (known k n) (g (at k (n - 1))) []) (numbers k) ≡ flat_map g k.handlers
+by_number g k = along_numbers g blank (λ n. cond (known k n) (g (at k (n - 1))) []) k.handlers 1 (λ i l.
     let low : nat_le 1 (1 + i) ≡ true = le-leb 1 (1 + i) (omega arith) in
     let high : nat_le (1 + i) (count k) ≡ true = le-leb (1 + i) (count k) (omega (arith, l)) in
     let place : 1 + i - 1 ≡ i = omega arith in
-    ap₂ (λ a b. cond (a && b) (handler_record (at k (1 + i - 1))) []) low high ∙ ap (λ n. handler_record (at k n)) place)
+    ap₂ (λ a b. cond (a && b) (g (at k (1 + i - 1))) []) low high ∙ ap (λ n. g (at k n)) place)
+
+pub handlers_by_number : (k : Contents) → flat_map (record_if_known k) (numbers k) ≡ handler_records k
+handlers_by_number = by_number handler_record
 
 -- the record of the core of number c
 abbrev pub core_bytes : List ℕ → ℕ → List ℕ

@@ -53,7 +53,7 @@ module _ (bytes_of : ℕ → List ℕ) (count : ℕ) where
   bytes_below n = flat_map bytes_of (take (n - 1) (range_with_len 1 count))
 
   -- the bytes of all numbers
-  abbrev bytes : List ℕ
+  abbrev pub bytes : List ℕ
   bytes = flat_map bytes_of (range_with_len 1 count)
 
   module _ (n : ℕ) (some : 1 ≤ n) where
@@ -67,14 +67,14 @@ module _ (bytes_of : ℕ → List ℕ) (count : ℕ) where
       one_more_fits : length (bytes_below n) + length (bytes_of n) ≤ length bytes
       one_more_fits = rw here at (length-flat_map-take bytes_of (range_with_len 1 count) (n - 1) 0 inside_list)
 
-      one_more : bytes_below n ++ bytes_of n ≡ bytes_below (n + 1)
+      pub one_more : bytes_below n ++ bytes_of n ≡ bytes_below (n + 1)
       one_more =
           flat_map_more bytes_of [] (take (n - 1) (range_with_len 1 count)) n
           ∙ ap (λ m. flat_map bytes_of (take (n - 1) (range_with_len 1 count) ++ m ∷ [])) (sym here)
           ∙ ap (flat_map bytes_of) (sym (take_more (range_with_len 1 count) (n - 1) 0 inside_list))
           ∙ ap (λ m. flat_map bytes_of (take m (range_with_len 1 count))) (omega (arith, some))
 
-    all_below : count < n → bytes_below n ≡ bytes
+    pub all_below : count < n → bytes_below n ≡ bytes
     all_below past = ap (flat_map bytes_of) (take_all (n - 1) (range_with_len 1 count) (omega (arith, past, length-range_with_len 1 count)))
 
   -- ---- a loop that puts them

@@ -60,10 +60,10 @@ module _ (bytes : List ℕ) (s : Standing) where
   abbrev pub EndsInside : Type 0
   EndsInside = length bytes < s.place + suc body
 
-  -- the join does not come after the last one, or the core is not the next one
+  -- the join does not come after the one before it, if there is one, or the core is not the next one
   abbrev pub BodyMisplaced : Type 0
   BodyMisplaced =
-      ((kind_here ≡ 2) × ((byte 1 < s.first) ⊎ ((byte 1 ≡ s.first) × (byte 2 ≤ s.second))))
+      ((kind_here ≡ 2) × (s.kind ≡ 2) × ((byte 1 < s.first) ⊎ ((byte 1 ≡ s.first) × (byte 2 ≤ s.second))))
       ⊎ ((kind_here ≡ 3) × (byte 1 ≢ suc s.cores))
 
   -- ---- the record, and where the reader stands after it

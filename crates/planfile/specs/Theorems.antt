@@ -1,5 +1,5 @@
 -- What is proved of files.
-use Rattle.std.specs.Prelude.{◌≡◌, ℕ, ◌<◌, ◌≤◌, ◌↔◌, List, length, slice_index}
+use Rattle.std.specs.Prelude.{◌≡◌, ℕ, ◌+◌, ◌<◌, ◌≤◌, ◌↔◌, List, length, take, slice_index}
 use Rattle.std.specs.List.{Contains as Has}
 use Rattle.plan.specs.Contents.{Contents, Sound}
 use Rattle.planfile.specs.declared.faults.Fault.{Fault}
@@ -42,3 +42,8 @@ longest = 6713
 pub record LongestFile : Type 0 where
   pub none_longer : (k : Contents) (codes : List ℕ) → Sound k → AreCodes codes → length (file_of k codes) ≤ longest
   pub one_as_long : (k : Contents) × (codes : List ℕ) × Sound k × AreCodes codes × (length (file_of k codes) ≡ longest)
+
+-- what the first bytes are read as, so many that there is room for one record more than in any file, all bytes are read as: nothing behind them is looked at
+pub record FirstBytesDecide : Type 0 where
+  pub file : (n : ℕ) (bytes : List ℕ) → longest + 10 ≤ n → AreBytes (take n bytes) → (k : Contents) (codes : List ℕ) → IsFile (take n bytes) k codes → IsFile bytes k codes
+  pub refused : (n : ℕ) (bytes : List ℕ) → longest + 10 ≤ n → AreBytes (take n bytes) → (f : Fault) → IsRefused (take n bytes) f → IsRefused bytes f

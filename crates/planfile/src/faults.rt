@@ -1,6 +1,6 @@
 // Why a file is not read or written.
 ghost use Rattle.std.specs.Prelude.{◌≡◌};
-ghost use Rattle.planfile.specs.Numbers.{flaw_number};
+ghost use Rattle.planfile.specs.Numbers.{flaw_number, cause_number};
 ghost use Rattle.planfile.specs.declared.faults.Cause.TheVariants.{Plan};
 
 use terms::refusals::Refusal;
@@ -45,6 +45,18 @@ impl From<Refusal> for Cause {
 
     fn from(refusal: Refusal) -> Cause {
         Cause::Plan(refusal)
+    }
+}
+
+impl Cause {
+    /// The number of the test that failed: 1 to 8 of the plan's, 10 to 13 of the file's.
+    pub fn number(self) -> u8
+        ensures { result ≡ cause_number self }
+    {
+        match self {
+            Cause::File(flaw) => flaw.number(),
+            Cause::Plan(refusal) => refusal.number(),
+        }
     }
 }
 

@@ -133,6 +133,19 @@ fn damaged_files_are_refused(rt: HostRuntime) -> Result<(), Fail> {
     refuses(&rt, &untaken())
 }
 
+// No join stands before the first: its numbers may be any, for the file, and the plan refuses them.
+#[test]
+fn the_first_join_is_in_order(rt: HostRuntime) -> Result<(), Fail> {
+    let mut plan = Plan::new();
+    let mut codes = [7; 8];
+    let fault = Fault {
+        cause: Cause::Plan(Refusal::NoSuchHandler),
+        place: 0,
+    };
+    assert_eq!(rt; read(&[2, 0, 0], &mut plan, &mut codes), Err(fault));
+    Ok(())
+}
+
 #[test]
 fn what_is_read_is_written(rt: HostRuntime) -> Result<(), Fail> {
     let mut plan = Plan::new();

@@ -72,9 +72,10 @@ impl<'b> Reader<'b> {
         ensures { refuses (BodyMisplaced self.now.bytes.now (standing self.now)) OutOfOrder (λ r. r ≡ Ok tt) result }
     {
         match next {
-            Record::Join { first, second } if (first, second) <= (self.first, self.second) => Err(
-                Flaw::OutOfOrder,
-            ),
+            Record::Join { first, second }
+                if self.kind == 2 && (first, second) <= (self.first, self.second) => {
+                Err(Flaw::OutOfOrder)
+            }
             Record::Core { core, .. } if core != self.cores + 1 => Err(Flaw::OutOfOrder),
             _ => Ok(()),
         }

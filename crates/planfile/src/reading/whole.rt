@@ -1,7 +1,7 @@
 // Reading a whole file.
 ghost use Rattle.std.specs.Prelude.{◌≡◌, [], OnErr, MatchResult};
 ghost use Rattle.plan.specs.Contents.{contents, empty};
-ghost use Rattle.planfile.specs.Theorems.{FilesAreWritten, EveryFileIsReadOnce};
+ghost use Rattle.planfile.specs.Theorems.{FilesAreWritten, EveryFileIsReadOnce, FirstBytesDecide};
 ghost use Rattle.planfile.specs.Reads.{IsFile, IsRefused, Reads};
 
 use crate::entering::enter;
@@ -40,6 +40,7 @@ pub fn read(bytes: &[u8], plan: &mut Plan, codes: &mut [u8; 8]) -> Result<(), Fa
     ensures untouched { OnErr result ((plan.new ≡ plan.old) × (codes.new ≡ codes.old)) }
     ensures written { FilesAreWritten }
     ensures once { EveryFileIsReadOnce }
+    ensures first_bytes { FirstBytesDecide }
 {
     let mut fresh = Plan::new();
     let mut fresh_codes = ArrayVec::new();

@@ -1,6 +1,7 @@
 use Rattle.std.proofs.Common.{arith}
 use Rattle.planfile.proofs.Readings.{eight}
 use Rattle.planfile.proofs.FiledWritten.{files_are_written}
+use Rattle.planfile.proofs.FirstBytes.{first_bytes_decide}
 use Rattle.planfile.proofs.Outcomes.{every_file_is_read_once}
 use Rattle.planfile.proofs.reading.whole.read.Goals as goal
 
@@ -18,3 +19,9 @@ returns-clause-written c = files_are_written
 
 pub returns-clause-once : goal.returns-clause-once
 returns-clause-once c = every_file_is_read_once
+
+pub returns-in_err-enter_all-clause-first_bytes : goal.returns-in_err-enter_all-clause-first_bytes
+returns-in_err-enter_all-clause-first_bytes c = first_bytes_decide
+
+pub returns-clause-first_bytes : goal.returns-clause-first_bytes
+returns-clause-first_bytes c = first_bytes_decide
