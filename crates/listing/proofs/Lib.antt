@@ -1,1 +1,4 @@
 pub mod Cutting
+pub mod OneCut
+pub mod OneListing
+pub mod Refusing

@@ -1,1 +1,2 @@
 pub mod Taking
+pub mod Theorems

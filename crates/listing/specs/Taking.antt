@@ -1,5 +1,5 @@
 -- What the lines of the text form make of a plan and the codes of its cores.
-use Rattle.std.specs.Prelude.{◌≡◌, ℕ, ◌-◌, ◌<◌, ◌≤◌, ◌≢◌, ◌⊎◌, ◌==◌, List, [], ◌∷◌, ◌++◌, length, Ok, Err, replicate, min, slice_set}
+use Rattle.std.specs.Prelude.{◌≡◌, ℕ, ◌+◌, ◌-◌, ◌^◌, ◌<◌, ◌≤◌, ◌≢◌, ◌⊎◌, ◌==◌, List, [], ◌∷◌, ◌++◌, length, Ok, Err, replicate, min, slice_set}
 use Rattle.std.specs.List.{before_first}
 use Rattle.std.specs.Str.{NoCharPasses, EmptyOrStartsWithPassing}
 use Rattle.std.specs.Char.{is_whitespace, is_not_whitespace}
@@ -18,7 +18,8 @@ use Rattle.notation.specs.declared.Line.TheVariants.{Empty, Handler as AHandler,
 use Rattle.notation.specs.Lines.{Says}
 use Rattle.listing.specs.declared.Listing.{Listing}
 use Rattle.listing.specs.declared.Trouble.{Trouble}
-use Rattle.listing.specs.declared.Trouble.TheVariants.{Refused, NoCore, NoCode}
+use Rattle.listing.specs.declared.Trouble.TheVariants.{Words, Refused, NoCore, NoCode, Memory}
+use Rattle.listing.specs.declared.Unlisted.{Unlisted}
 
 -- a number as a byte: what does not fit becomes 255, which is no core, no code and no handler either
 abbrev pub byte_of : ℕ → ℕ
@@ -111,3 +112,40 @@ pub record TookText (text : List ℕ) (was next : Listing) : Type 0 where
 pub data Lists : List (List ℕ) → Listing → Type 0 where
   begun : {l : Listing} → IsNew l → Lists [] l
   then : {lines : List (List ℕ)} {was next : Listing} (line : List ℕ) → Lists lines was → TookText line was next → Lists (lines ++ line ∷ []) next
+
+-- the words of the line's text say nothing that a line can say
+pub record SaysNothing (text : List ℕ) : Type 0 where
+  pub words : List (List ℕ)
+  pub cut : SplitsInto (before_comment text) words
+  pub unsaid : (line : Line) → ¬ Says words line
+
+-- what they say is refused for this
+pub record SaysRefused (text : List ℕ) (was : Listing) (e : Trouble) : Type 0 where
+  pub words : List (List ℕ)
+  pub line : Line
+  pub cut : SplitsInto (before_comment text) words
+  pub says : Says words line
+  pub refused : Refuses line was e
+
+-- why the text of a line is not taken; memory may run out at any
+abbrev pub RefusesText : List ℕ → Listing → Trouble → Type 0
+RefusesText text was (Words problem) = SaysNothing text
+RefusesText text was (Refused why) = SaysRefused text was (Refused why)
+RefusesText text was (NoCore n) = SaysRefused text was (NoCore n)
+RefusesText text was (NoCode n) = SaysRefused text was (NoCode n)
+RefusesText text was Memory = Unit {0}
+
+-- the number of the line behind so many others, from 1 on; no text has so many lines that the count would stop
+abbrev pub line_number : ℕ → ℕ
+line_number n = min (n + 1) (2 ^ 64 - 1)
+
+-- the lines before this one make a listing, and this one is not taken
+pub record IsUnlisted (ls : List (List ℕ)) (e : Unlisted) : Type 0 where
+  pub before : List (List ℕ)
+  pub line : List ℕ
+  pub after : List (List ℕ)
+  pub split : ls ≡ before ++ line ∷ after
+  pub number : e.line ≡ line_number (length before)
+  pub was : Listing
+  pub lists : Lists before was
+  pub refused : RefusesText line was e.trouble

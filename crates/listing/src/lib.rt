@@ -10,9 +10,9 @@ ghost use Rattle.listing.specs.declared.Listing.{Listing};
 ghost use Rattle.listing.specs.declared.Trouble.TheVariants.{Words, Refused, Memory};
 ghost use Rattle.std.specs.Str.Lines.{lines};
 ghost use Rattle.notation.specs.Lines.{texts, Says};
-ghost use Rattle.listing.specs.Taking.{byte_of, before_comment, IsNew, TookHandler, TookJoin, TookCode, Took, RefusesHandler, RefusesJoin, RefusesCode, Refuses, SplitsInto, TookText, Lists};
+ghost use Rattle.listing.specs.Taking.{byte_of, before_comment, IsNew, TookHandler, TookJoin, TookCode, Took, RefusesHandler, RefusesJoin, RefusesCode, Refuses, SplitsInto, TookText, Lists, RefusesText, IsUnlisted};
+ghost use Rattle.listing.specs.Theorems.{OneListing, GoodLinesAreTaken};
 
-use anyhow::anyhow;
 use banks::codes::Code;
 use notation::{CoreLine, HandlerLine, JoinLine, Line, Problem, parse_words};
 use order::cores::Core;
@@ -44,6 +44,14 @@ pub enum Trouble {
     NoCode(u16),
     #[error("out of memory")]
     Memory,
+}
+
+/// The first line of a text that is not taken, counted from 1, and why.
+#[derive(Debug, Drop, Error)]
+#[error("line {line}: {trouble}")]
+pub struct Unlisted {
+    pub line: usize,
+    pub trouble: Trouble,
 }
 
 // By hand and not by `#[from]`, whose impls have no contract: clauses say which error a `?` passes on.
@@ -145,7 +153,7 @@ impl Listing {
 
     // Takes one line of text; what follows a `#` is a comment.
     fn add_line(&mut self, heap: Global, text: &str) -> Result<(), Trouble>
-        ensures took { IfOk result (λ _. TookText text.now self.old self.new) }
+        ensures took { MatchResult result (λ _. TookText text.now self.old self.new) (RefusesText text.now self.old) }
         ensures same { OnErr result (self.new ≡ self.old) }
     {
         let words = words(heap, before_comment(text))?;
@@ -166,16 +174,18 @@ fn words(heap: Global, text: &str) -> Result<Vec<&str>, AllocError>
     text.split_whitespace().collect(heap)
 }
 
-/// Reads a whole list; a bad line ends it with a message that names the line.
-pub fn read(heap: Global, text: &str) -> anyhow::Result<Listing>
-    ensures { IfOk result (λ list. Lists (lines text.now) list) }
+/// Reads a whole list, up to the first line that is not taken.
+pub fn read(heap: Global, text: &str) -> Result<Listing, Unlisted>
+    ensures reads { MatchResult result (Lists (lines text.now)) (IsUnlisted (lines text.now)) }
+    ensures one { OneListing }
+    ensures taken { GoodLinesAreTaken }
 {
     let mut list = Listing::new();
     for (at, line) in text.lines().enumerate() {
-        list.add_line(heap, line).map_err(|trouble| anyhow!(
-            "line {}: {trouble}",
-            at.saturating_add(1)
-        ))?;
+        list.add_line(heap, line).map_err(|trouble| Unlisted {
+            line: at.saturating_add(1),
+            trouble,
+        })?;
     }
     Ok(list)
 }

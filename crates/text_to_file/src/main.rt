@@ -1,0 +1,18 @@
+// Reads the text form of a plan, and writes the plan's file.
+#![tactic(auto)]
+
+use listing::finish;
+use std::io::{self, Write};
+use std::process::ExitCode;
+use texts::to_file;
+
+fn run(rt: &HostRuntime) -> anyhow::Result<()> {
+    let text = io::read_to_string(rt.alloc(), rt.stdin())?;
+    let file = to_file(rt.alloc(), &text)?;
+    rt.stdout().write_all(&file)?;
+    Ok(())
+}
+
+fn main(rt: HostRuntime) -> io::Result<ExitCode> {
+    finish(&rt, run(&rt))
+}

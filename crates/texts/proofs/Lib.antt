@@ -1,0 +1,10 @@
+pub mod Adding
+pub mod Files
+pub mod Made
+pub mod Words
+pub mod Breaks
+pub mod Sayings
+pub mod Printed
+pub mod Listed
+pub mod ListedWhole
+pub mod Back
