@@ -1,9 +1,6 @@
 -- A check of a sample whose verdict is known finds that verdict.
 use Rattle.std.proofs.Common.{◌≡◌, ℕ, List, Ok, Result, sym, ap, ◌∙◌, subst, inl, inr, arith}
 use Rattle.std.proofs.lemmas.List.{length-take-le}
-use mathlib.Core.Path.{fun_ext}
-use Rattle.order.specs.declared.cores.Core.{Core}
-use Rattle.order.specs.declared.candidates.Candidate.{Candidate}
 use Rattle.order.specs.Laws.{Choice}
 use Rattle.terms.specs.declared.refusals.Refusal.{Refusal}
 use Rattle.terms.specs.declared.refusals.Refusal.TheVariants.{UnfitTables}
@@ -17,10 +14,6 @@ use Rattle.samples.specs.declared.Sample.{Sample}
 use Rattle.samples.specs.Plans.{Known, plan_of}
 use Rattle.laws.specs.Checks.{Tables, Unfit, Judges, Checks, MarksAfter, TablesAfter, KeptRows}
 use Rattle.account.specs.Accounts.{SizedFor, counted, FindsKnown}
-
--- choices that answer every question alike are one
-pub one_choice : (D E : Choice) → ((k : Core) (a b : Candidate) (t : ℕ) → D k a b t ≡ E k a b t) → D ≡ E
-one_choice D E same = fun_ext (λ k. fun_ext (λ a. fun_ext (λ b. fun_ext (λ t. same k a b t))))
 
 counted_marks : (p : Contents) (D : Choice) (v : Verdict) (was is : List State) → MarksAfter p D v was is → KeptRows p D v (counted v is)
 counted_marks p D (Kept k c) was is m = (length-take-le c is m.fits, m.marks)

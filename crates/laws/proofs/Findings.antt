@@ -1,6 +1,9 @@
 -- What a check found among the calls of a history: kept, missed, and the marks that it left.
-use Rattle.std.proofs.Common.{◌-◌, length, Ok, sym, ap, subst}
+use Rattle.std.proofs.Common.{◌≡◌, ℕ, ◌-◌, length, Ok, sym, ap, subst}
 use Rattle.std.specs.Result.{result_unwrap_or}
+use mathlib.Core.Path.{fun_ext}
+use Rattle.order.specs.declared.cores.Core.{Core}
+use Rattle.order.specs.declared.candidates.Candidate.{Candidate}
 use Rattle.order.specs.Laws.{Choice, IsLawfulChoice}
 use Rattle.plan.specs.Contents.{Contents, Sound}
 use Rattle.model.specs.declared.verdicts.Verdict.{Verdict}
@@ -14,8 +17,12 @@ use Rattle.plan.proofs.Tested.{passed}
 use Rattle.laws.proofs.Sounds.{after_sound}
 use Rattle.laws.proofs.Calls.{among_made}
 
+-- choices that answer every question alike are one
+pub one_choice : (D E : Choice) → ((k : Core) (a b : Candidate) (t : ℕ) → D k a b t ≡ E k a b t) → D ≡ E
+one_choice D E same = fun_ext (λ k. fun_ext (λ a. fun_ext (λ b. fun_ext (λ t. same k a b t))))
+
 -- a check that answers a verdict answers the model's
-judged : (k : Contents) (D : Choice) (was is : Tables) (v : Verdict) → Checks k D was (Ok v) is → VerdictIs k D (length was.front) (length was.marks) v
+pub judged : (k : Contents) (D : Choice) (was is : Tables) (v : Verdict) → Checks k D was (Ok v) is → VerdictIs k D (length was.front) (length was.marks) v
 judged k D was is v c =
     let r = (passed c.answers).1 in
     subst (VerdictIs k D (length was.front) (length was.marks)) (sym (ap (λ x. result_unwrap_or x v) r.2)) r.1

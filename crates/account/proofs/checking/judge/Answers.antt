@@ -1,4 +1,5 @@
-use Rattle.account.proofs.Judging.{one_choice, finds_known}
+use Rattle.laws.proofs.Findings.{one_choice}
+use Rattle.account.proofs.Judging.{finds_known}
 use Rattle.account.proofs.checking.judge.Goals as goal
 
 pub returns : goal.returns
