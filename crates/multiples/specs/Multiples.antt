@@ -1,12 +1,7 @@
--- Greatest common divisors and least common multiples: what they are, and how they are computed.
+-- Greatest common divisors and least common multiples, as they are computed; and what a least common multiple is, as
+-- std's `IsGcd` says it of a greatest common divisor.
 use Rattle.std.specs.Prelude.{ℕ, zero, suc, ◌*◌, ◌/◌, ◌%◌, ◌≤◌, cond, Some, None, Option, nat_le}
 use Rattle.std.specs.Int.{◌∣◌}
-
--- g divides both, and so does nothing that does not divide g
-pub record GreatestCommonDivisor (a b g : ℕ) : Type 0 where
-  pub left : g ∣ a
-  pub right : g ∣ b
-  pub every : (d : ℕ) → d ∣ a → d ∣ b → d ∣ g
 
 -- both divide m, and m divides everything that both divide; so no common multiple above 0 is less than m
 pub record LeastCommonMultiple (a b m : ℕ) : Type 0 where

@@ -1,13 +1,14 @@
 // Greatest common divisors and least common multiples.
 #![tactic(auto)]
 
-ghost use Rattle.std.specs.Prelude.{◌≡◌, IfSome};
-ghost use Rattle.multiples.specs.Multiples.{gcd, lcm, within, GreatestCommonDivisor, LeastCommonMultiple};
+ghost use Rattle.std.specs.Prelude.{◌≡◌};
+ghost use Rattle.std.specs.Int.{IsGcd};
+ghost use Rattle.multiples.specs.Multiples.{gcd, lcm, within, LeastCommonMultiple};
 
 /// The greatest number that divides both; 0 for two zeros.
 pub fn greatest_common_divisor(a: u32, b: u32) -> u32
     ensures value { result ≡ gcd a b }
-    ensures greatest { GreatestCommonDivisor a b result }
+    ensures greatest { IsGcd a b result }
 {
     let (mut x, mut y) = (a, b);
     while y != 0 {
@@ -16,10 +17,10 @@ pub fn greatest_common_divisor(a: u32, b: u32) -> u32
     x
 }
 
-/// The least number that both divide, and 0 where one of them is 0; `None` where that passes the limit.
+/// The least number from 1 on that both divide, and 0 where one of them is 0; `None` where that passes the limit.
 pub fn least_common_multiple(a: u32, b: u32, limit: u32) -> Option<u32>
     ensures value { result ≡ within limit (lcm a b) }
-    ensures least { IfSome result (λ m. LeastCommonMultiple a b m) }
+    ensures least { LeastCommonMultiple a b (lcm a b) }
 {
     if a == 0 || b == 0 {
         return Some(0);

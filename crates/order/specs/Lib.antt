@@ -5,3 +5,4 @@ pub mod Ranks
 pub mod Lawful
 pub mod Distances
 pub mod Lexical
+pub mod Words

@@ -1,4 +1,4 @@
--- What the three criteria, numbering over a criterion and a bank over two disciplines mean.
+-- What the three criteria and numbering over a criterion mean.
 use Rattle.std.specs.Prelude.{ℕ, Bool}
 use Rattle.std.specs.declared.cmp.Ordering.{Ordering}
 use Rattle.std.specs.Ordering.{is_lt, nat_cmp, ordering_then}

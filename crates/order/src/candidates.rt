@@ -1,5 +1,6 @@
 // Candidates: handlers as a core sees them when it chooses. The type carries the ranges.
 ghost use Rattle.std.specs.Prelude.{◌≡◌, ◌≤◌, ◌&&◌, is_some, IfSome, nat_le};
+ghost use Rattle.order.specs.Words.{FitsWord};
 
 /// A handler as a core sees it when it chooses: its number, and when it is released.
 #[derive(Clone, Copy)]
@@ -10,6 +11,8 @@ pub struct Candidate {
     ghost low: { 1 ≤ number },
     ghost high: { number ≤ 64 },
     ghost comes: { 1 ≤ period },
+    ghost period_fits: { FitsWord period },
+    ghost offset_fits: { FitsWord offset },
 }
 
 impl Candidate {

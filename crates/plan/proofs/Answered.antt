@@ -1,11 +1,9 @@
 -- Two answers to one call are one, and a circle is told by where the joins lead.
-use Rattle.std.proofs.Common.{◌≡◌, ℕ, ◌+◌, ◌-◌, ◌⊎◌, Err, Result, sym, ap, ◌∙◌, inl, inr, arith}
+use Rattle.std.proofs.Common.{◌≡◌, ℕ, ◌+◌, ◌⊎◌, Err, Result, sym, ap, ◌∙◌, inl, inr}
 use Rattle.terms.specs.declared.handlers.Handler.{Handler}
-use Rattle.plan.specs.declared.plans.Plan.{Plan}
 use Rattle.terms.specs.declared.refusals.Refusal.{Refusal}
-use Rattle.plan.specs.Joins.{joined_in, Leads}
-use Rattle.plan.specs.Contents.{Contents, contents, count, Known}
-use Rattle.plan.specs.Calls.{accepts, after, Agree, OneAnswer, Registers, Joins, Reseats, added, with_join, reseated, ClosesCircle}
+use Rattle.plan.specs.Contents.{Contents, count}
+use Rattle.plan.specs.Calls.{accepts, after, Agree, OneAnswer, Registers, Joins, Reseats, added, with_join, reseated}
 
 -- two answers by the same tests are one
 pub one_answer : {A E P Q Q' : Type 0} {r s : Result A E} {why : E} → (Q → Q' → s ≡ r)
@@ -36,12 +34,6 @@ module _ (k : Contents) (a b : ℕ) where
   join_one : Agree (Joins k a b)
   join_one r s next other x y =
       leaves_one k (with_join k a b) next other r s (one_answer (one_answer (one_answer (accepts_one tt r s))) x.answers y.answers) x.leaves y.leaves
-
--- the test for a circle, by the table of the plan
-module _ (p : Plan) (a b : ℕ) (ka : Known (contents p) a) (kb : Known (contents p) b) where
-  pub circle_from_leads : Leads (joined_in p.joins) (b - 1) (a - 1) → ClosesCircle (contents p) a b
-  circle_from_leads (inl e) = inl (omega (arith, e, ka.0, kb.0))
-  circle_from_leads (inr q) = inr q
 
 -- ---- reseat
 

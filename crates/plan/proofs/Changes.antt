@@ -1,5 +1,5 @@
 -- What a plan's fields say after a handler is added or seated anew, or two are joined.
-use Rattle.std.proofs.Common.{◌≡◌, ℕ, suc, ◌+◌, ◌<◌, max, Bool, true, false, ◌&&◌, ◌||◌, eqb, ◌≢◌, ◌⊎◌, List, [], ◌∷◌, ◌++◌, length, get_or, take, set, sym, ap, ◌∙◌, subst, inl, inr, arith}
+use Rattle.std.proofs.Common.{◌≡◌, ℕ, suc, ◌+◌, ◌<◌, max, Bool, true, false, ◌&&◌, ◌||◌, eqb, ◌≢◌, ◌⊎◌, List, [], ◌∷◌, ◌++◌, length, get_or, take, set, sym, ap, ◌∙◌, inl, inr, arith}
 use mathlib.Core.Bool.{or-false}
 use Rattle.std.proofs.lemmas.Bool.{cases_eq, eq-eqb, ne_eqb, eqb-true, or_cases, or_right, and_parts, and_from, and_left, and_right}
 use Rattle.std.proofs.Math.Seq.{take-set-lt}
@@ -8,7 +8,8 @@ use Rattle.std.proofs.lemmas.List.Sums.{fold_push}
 use Rattle.multiples.specs.Multiples.{lcm}
 use Rattle.terms.specs.declared.handlers.Handler.{Handler}
 use Rattle.plan.specs.Rows.{blank, IsInRange, AllInRange, BlankFrom, round_of, settling_of}
-use Rattle.plan.specs.Joins.{joined_in, linked, Chain, one, more, Leads, Inside, OnePeriod, OneOffset, NoCircle, Wide}
+use Rattle.plan.specs.Joins.{joined_in, linked, Inside, OnePeriod, OneOffset, NoCircle, Wide}
+use Rattle.plan.proofs.Chains.{Leads, still_straight}
 use Rattle.plan.proofs.Rounds.{folded_set}
 
 -- ---- one row written
@@ -144,36 +145,8 @@ module _ (table : List (List Bool)) (i j : ℕ) (tall : length table ≡ 64) (wi
   pub link_offsets : (hs : List Handler) → (get_or hs i blank).offset ≡ (get_or hs j blank).offset → OneOffset hs table → OneOffset hs (linked table i j)
   link_offsets = link_field (λ h. h.offset)
 
-  -- a chain over the new table goes over the old one, or comes by the new join
-  leads_step : (x z y : ℕ) → joined_in table x z ≡ true → Leads (joined_in table) z y → Leads (joined_in table) x y
-  leads_step x z y h (inl e) = inr (one (subst (λ a. joined_in table x a ≡ true) e h))
-  leads_step x z y h (inr p) = inr (more h p)
-
-  chain_cases : {x y : ℕ} → Chain (joined_in (linked table i j)) x y → Chain (joined_in table) x y ⊎ (Leads (joined_in table) x i × Leads (joined_in table) j y)
-  chain_cases (one {a} {b} h) =
-      elim (link_only a b h) [ inl k ↦ inl (one k) | inr q ↦ inr (inl q.0, inl (sym q.1)) ]
-  chain_cases (more {a} {b} {c} h p) =
-      elim (link_only a b h) [
-        | inl k ↦ (elim (chain_cases p) [ inl m ↦ inl (more k m) | inr m ↦ inr (leads_step a b i k m.0, m.1) ])
-        | inr q ↦
-            (elim (chain_cases p) [
-              | inl m ↦ inr (inl q.0, inr (subst (λ b. Chain (joined_in table) b c) q.1 m))
-              | inr m ↦ inr (inl q.0, m.1)
-            ])
-      ]
-
-  chain_join : {x y z : ℕ} → Chain (joined_in table) x y → Chain (joined_in table) y z → Chain (joined_in table) x z
-  chain_join (one h) q = more h q
-  chain_join (more h p) q = more h (chain_join p q)
-
-  leads_join : (x y z : ℕ) → Leads (joined_in table) x y → Leads (joined_in table) y z → Leads (joined_in table) x z
-  leads_join x y z (inl e) q = subst (λ a. Leads (joined_in table) a z) (sym e) q
-  leads_join x y z (inr p) (inl e) = inr (subst (λ a. Chain (joined_in table) x a) e p)
-  leads_join x y z (inr p) (inr q) = inr (chain_join p q)
-
-  pub link_straight : NoCircle (joined_in table) → (Leads (joined_in table) j i → ⊥) → NoCircle (joined_in (linked table i j))
-  link_straight straight apart x p =
-      elim (chain_cases p) [ inl k ↦ straight x k | inr q ↦ apart (leads_join j x i q.1 q.0) ]
+  pub link_straight : NoCircle (joined_in table) → ¬ Leads (joined_in table) j i → NoCircle (joined_in (linked table i j))
+  link_straight = still_straight (joined_in table) (joined_in (linked table i j)) i j link_only
 
   -- by numbers: a and b are one more than i and j
   pub link_number : (a b : ℕ) → a ≡ suc i → b ≡ suc j → (x y : ℕ) → joined_in (linked table i j) x y ≡ (joined_in table x y || (eqb (suc x) a && eqb (suc y) b))

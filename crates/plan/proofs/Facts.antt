@@ -7,9 +7,8 @@ use Rattle.terms.specs.declared.handlers.Handler.{Handler}
 use Rattle.plan.specs.declared.plans.Plan.{Plan}
 use Rattle.terms.specs.contracts.handlers.Handler.{the_row}
 use Rattle.plan.specs.contracts.plans.Plan.{struct, the_propositions}
-use Rattle.plan.specs.Rows.{blank, AllInRange, round_of, settling_of}
+use Rattle.plan.specs.Rows.{blank, AllInRange, Recurring, round_of, settling_of}
 use Rattle.plan.specs.Joins.{joined_in}
-use Rattle.plan.proofs.Rounds.{Recurring}
 use Rattle.plan.specs.Contents.{Contents, contents, at, Sound, ContentsTell}
 
 -- handlers in range have a period

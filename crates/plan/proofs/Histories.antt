@@ -10,8 +10,8 @@ accepted_push [] call = omega arith
 accepted_push (c ∷ calls) call = omega (arith, accepted_push calls call)
 
 count_after : (k next : Contents) (call : Call) → Makes k call next → count next ≡ count k + registers_one call
-count_after k next (registered h (Ok n)) m = ap count m.leaves ∙ length_push k.handlers h
-count_after k next (registered h (Err e)) m = omega (arith, ap count m.leaves)
+count_after k next (registered h (Ok n)) m = ap count m.1.leaves ∙ length_push k.handlers h
+count_after k next (registered h (Err e)) m = omega (arith, ap count m.1.leaves)
 count_after k next (joined a b (Ok u)) m = omega (arith, ap count m.leaves)
 count_after k next (joined a b (Err e)) m = omega (arith, ap count m.leaves)
 count_after k next (reseated n c (Ok u)) m = let e = ap count m.leaves in omega (arith, e, length-set k.handlers (n - 1) (seated (at k (n - 1)) c))

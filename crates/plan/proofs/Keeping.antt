@@ -1,50 +1,15 @@
 -- An accepted change leaves sound contents sound.
-use Rattle.std.proofs.Common.{◌≡◌, ℕ, suc, ◌-◌, ◌<◌, Bool, true, ◌&&◌, eqb, ◌⊎◌, [], ◌∷◌, get_or, sym, refl, ap, ◌∙◌, subst, inl, inr, arith}
+use Rattle.std.proofs.Common.{◌≡◌, ℕ, suc, ◌-◌, ◌<◌, true, ◌&&◌, eqb, ◌⊎◌, [], ◌∷◌, get_or, sym, refl, ap, ◌∙◌, inl, inr, arith}
 use Rattle.std.proofs.lemmas.Bool.{cases_lt, eqb-true, or_cases, and_parts}
 use Rattle.std.proofs.lemmas.List.{length_push, length-set, get_or_push, get_or_append_left, get_or_default}
 use Rattle.multiples.specs.Multiples.{lcm}
 use Rattle.terms.specs.declared.handlers.Handler.{Handler}
 use Rattle.plan.specs.Rows.{blank, IsInRange}
-use Rattle.plan.specs.Joins.{Chain, one, more, Leads, NoCircle}
 use Rattle.plan.specs.Contents.{Contents, count, at, round, Sound}
 use Rattle.plan.specs.Calls.{added, Takes, with_join, MayJoin, seated, reseated, MaySeat}
+use Rattle.plan.proofs.Chains.{still_straight, not_back}
 use Rattle.plan.proofs.Changes.{set_ranges, seat_field}
 use Rattle.plan.proofs.Rounds.{folded_set}
-
--- ---- chains over a table of joins that has one join more
-
-module _ (old : ℕ → ℕ → Bool) where
-  leads_step : (x z y : ℕ) → old x z ≡ true → Leads old z y → Leads old x y
-  leads_step x z y h (inl e) = inr (one (subst (λ a. old x a ≡ true) e h))
-  leads_step x z y h (inr p) = inr (more h p)
-
-  leads_join : {x y z : ℕ} → Chain old x y → Leads old y z → Leads old x z
-  leads_join {x} {z = z} (one {b = y} h) q = leads_step x y z h q
-  leads_join {x} {z = z} (more {b = y} h p) q = leads_step x y z h (leads_join p q)
-
-  leads_on : (x y z : ℕ) → Leads old x y → Leads old y z → Leads old x z
-  leads_on x y z (inl e) q = subst (λ a. Leads old a z) (sym e) q
-  leads_on x y z (inr p) q = leads_join p q
-
-  module _ (new : ℕ → ℕ → Bool) (i j : ℕ) (only : (x y : ℕ) → new x y ≡ true → (old x y ≡ true) ⊎ ((x ≡ i) × (y ≡ j))) where
-    -- a chain over the new table goes over the old one, or comes by the new join
-    chain_cases : {x y : ℕ} → Chain new x y → Chain old x y ⊎ (Leads old x i × Leads old j y)
-    chain_cases (one {a} {b} h) =
-        elim (only a b h) [ inl k ↦ inl (one k) | inr q ↦ inr (inl q.0, inl (sym q.1)) ]
-    chain_cases (more {a} {b} {c} h p) =
-        elim (only a b h) [
-          | inl k ↦ (elim (chain_cases p) [ inl m ↦ inl (more k m) | inr m ↦ inr (leads_step a b i k m.0, m.1) ])
-          | inr q ↦
-              (elim (chain_cases p) [
-                | inl m ↦ inr (inl q.0, inr (subst (λ b. Chain old b c) q.1 m))
-                | inr m ↦ inr (inl q.0, m.1)
-              ])
-        ]
-
-    -- the new join closes no circle where nothing led back
-    still_straight : NoCircle old → ¬ Leads old j i → NoCircle new
-    still_straight straight apart x p =
-        elim (chain_cases p) [ inl k ↦ straight x k | inr q ↦ apart (leads_on j x i q.1 q.0) ]
 
 -- ---- the three changes
 
@@ -104,10 +69,6 @@ module _ (k : Contents) (sound : Sound k) where
           | inr q ↦ (omega (arith, q.0, may.known_a.0, may.known_a.1), omega (arith, q.1, may.known_b.0, may.known_b.1))
         ]
 
-    not_back : ¬ Leads k.joined (b - 1) (a - 1)
-    not_back (inl e) = may.straight (inl (omega (arith, e, may.known_a.0, may.known_b.0)))
-    not_back (inr c) = may.straight (inr c)
-
     pub join_sound : Sound (with_join k a b)
     join_sound = record {
       few = sound.few;
@@ -116,7 +77,7 @@ module _ (k : Contents) (sound : Sound k) where
       inside = both_inside;
       periods = alike (λ x. x.period) may.periods sound.periods;
       offsets = alike (λ x. x.offset) may.offsets sound.offsets;
-      no_circle = still_straight k.joined (with_join k a b).joined (a - 1) (b - 1) joined_cases sound.no_circle not_back;
+      no_circle = still_straight k.joined (with_join k a b).joined (a - 1) (b - 1) joined_cases sound.no_circle (not_back k a b may);
     }
 
   module _ (n c : ℕ) (may : MaySeat k n c) where
@@ -141,7 +102,7 @@ module _ (k : Contents) (sound : Sound k) where
     still_seated : (i : ℕ) → i < count k → IsInRange (at (reseated k n c) i)
     still_seated =
         let g = sound.ranges (n - 1) within in
-        set_ranges k.handlers (n - 1) row within (count k) (λ i l ne. sound.ranges i l) (g.0, g.1, g.2, may.low, may.high)
+        set_ranges k.handlers (n - 1) row within (count k) (λ i l ne. sound.ranges i l) (g.0, g.1, g.2, may.low, may.high, g.5)
 
     pub seat_sound : Sound (reseated k n c)
     seat_sound = record {

@@ -9,8 +9,8 @@ use Rattle.plan.specs.Rows.{blank, AllInRange, BlankFrom, round_of, settling_of,
 use Rattle.plan.specs.Joins.{joined_in, linked, Inside, OnePeriod, OneOffset, NoCircle, Wide}
 use Rattle.plan.specs.Contents.{Contents, contents, at, round, empty}
 use Rattle.plan.specs.Calls.{added, Takes, with_join, MayJoin, seated, reseated, MaySeat}
-use Rattle.plan.proofs.Answered.{circle_from_leads}
 use Rattle.plan.proofs.Blanks.{blank_row, none_joined, not_joined, no_chain, all_wide}
+use Rattle.plan.proofs.Chains.{not_back}
 use Rattle.plan.proofs.Changes.{grow_ranges, grow_blanks, grow_round, grow_settling, grow_inside, grow_periods, grow_offsets, set_ranges, set_blanks, seat_field, seat_rows, seat_round, seat_settling, link_number, link_wide, link_inside, link_periods, link_offsets, link_straight}
 use Rattle.plan.proofs.Facts.{recurring, rows_length, at_is}
 use Rattle.plan.proofs.Rounds.{round_least, settling_greatest}
@@ -146,7 +146,7 @@ module _ (p : Plan) (a b : ℕ) (m : MayJoin (contents p) a b) where
         inside = link_inside p.joins (a - 1) (b - 1) p.holds.tall p.holds.wide il jl p.count ip jp p.holds.inside;
         periods = link_periods p.joins (a - 1) (b - 1) p.holds.tall p.holds.wide il jl p.handlers (field (λ h. h.period) m.periods) p.holds.periods;
         offsets = link_offsets p.joins (a - 1) (b - 1) p.holds.tall p.holds.wide il jl p.handlers (field (λ h. h.offset) m.offsets) p.holds.offsets;
-        straight = link_straight p.joins (a - 1) (b - 1) p.holds.tall p.holds.wide il jl p.holds.straight (λ l. m.straight (circle_from_leads p a b m.known_a m.known_b l));
+        straight = link_straight p.joins (a - 1) (b - 1) p.holds.tall p.holds.wide il jl p.holds.straight (not_back (contents p) a b m);
         rows = p.holds.rows;
         tall = length-set p.joins (a - 1) (set (get_or p.joins (a - 1) []) (b - 1) true) ∙ p.holds.tall;
         wide = link_wide p.joins (a - 1) (b - 1) p.holds.tall p.holds.wide il jl;
@@ -176,7 +176,7 @@ module _ (p : Plan) (n c : ℕ) (m : MaySeat (contents p) n c) where
       facts_from p.count p.round p.settling (set p.handlers i h) p.joins
       (record {
         few = p.holds.few;
-        ranges = set_ranges p.handlers i h within p.count (λ a lt ne. p.holds.ranges a lt) (g.0, g.1, g.2, m.low, m.high);
+        ranges = set_ranges p.handlers i h within p.count (λ a lt ne. p.holds.ranges a lt) (g.0, g.1, g.2, m.low, m.high, g.5);
         blanks = set_blanks p.handlers i h within p.count np p.holds.blanks;
         rounds = p.holds.rounds ∙ sym (seat_round p.handlers i h within p.count np refl);
         short = p.holds.short;

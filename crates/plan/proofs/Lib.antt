@@ -1,5 +1,6 @@
 pub mod Answered
 pub mod Blanks
+pub mod Chains
 pub mod Changes
 pub mod Facts
 pub mod Histories

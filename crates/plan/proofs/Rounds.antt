@@ -8,11 +8,7 @@ use Rattle.gather.proofs.Counting.{has_here, has_there, has_cases}
 use Rattle.multiples.specs.Multiples.{lcm}
 use Rattle.multiples.proofs.Euclid.{lcm_is}
 use Rattle.terms.specs.declared.handlers.Handler.{Handler}
-use Rattle.plan.specs.Rows.{round_from, round_of, settling_from, settling_of, Common, LeastRound, GreatestOffset}
-
--- every handler has a period
-abbrev pub Recurring : List Handler → Type 0
-Recurring hs = (h : Handler) → Has hs h → 1 ≤ h.period
+use Rattle.plan.specs.Rows.{round_from, settling_from, settling_of, Common, Recurring, RoundIsLeastCommonMultiple, GreatestOffset}
 
 -- from m on: a multiple of m and of every period, that divides every other
 record MultipleFrom (m : ℕ) (hs : List Handler) (n : ℕ) : Type 0 where
@@ -22,12 +18,12 @@ record MultipleFrom (m : ℕ) (hs : List Handler) (n : ℕ) : Type 0 where
   some : 1 ≤ n
 
 lcm_some : (a b : ℕ) → 1 ≤ a → 1 ≤ b → 1 ≤ lcm a b
-lcm_some a b a1 b1 = pos_of_dvd_of_pos ((lcm_is a b a1 b1).every (a * b) (dvd-mul_right a b) (dvd-mul_left b a)) (mul-pos a1 b1)
+lcm_some a b a1 b1 = pos_of_dvd_of_pos ((lcm_is a b).every (a * b) (dvd-mul_right a b) (dvd-mul_left b a)) (mul-pos a1 b1)
 
 round_multiple : (m : ℕ) (hs : List Handler) → 1 ≤ m → Recurring hs → MultipleFrom m hs (round_from m hs)
 round_multiple m [] m1 all = record { begun = dvd_refl m; common = λ h k. absurd (omega (arith, k.1)); every = λ k d c. d; some = m1 }
 round_multiple m (h ∷ hs) m1 all =
-    let l = lcm_is m h.period m1 (all h (has_here h hs)) in
+    let l = lcm_is m h.period in
     let ih = round_multiple (lcm m h.period) hs (lcm_some m h.period m1 (all h (has_here h hs))) (λ x k. all x (has_there h x hs k)) in
     record {
       begun = dvd_trans m l.left ih.begun;
@@ -36,7 +32,7 @@ round_multiple m (h ∷ hs) m1 all =
       some = ih.some;
     }
 
-pub round_least : (hs : List Handler) → Recurring hs → LeastRound hs (round_of hs)
+pub round_least : RoundIsLeastCommonMultiple
 round_least hs all =
     let r = round_multiple 1 hs (omega arith) all in
     record {

@@ -2,7 +2,7 @@
 use Rattle.std.proofs.Common.{◌≡◌, ℕ, ◌+◌, ◌-◌, ◌<◌, ◌≤◌, ◌≢◌, ◌⊎◌, Ok, Err, is_ok, refl, sym, ap, inl, inr, true≢false, arith}
 use Rattle.std.proofs.lemmas.Bool.{cases_eq, cases_lt}
 use Rattle.terms.specs.declared.handlers.Handler.{Handler}
-use Rattle.plan.specs.Rows.{longest_round}
+use Rattle.plan.specs.Rows.{FitsWords, longest_round}
 use Rattle.plan.specs.Joins.{Chain, one, more}
 use Rattle.plan.specs.Contents.{Contents, count, at, Known, round, empty, Sound}
 use Rattle.plan.specs.Calls.{added, with_join, Takes, MayJoin, MaySeat, Registers, Joins, Reseats}
@@ -26,8 +26,8 @@ is_known k n not = (above n 1 (λ l. not (λ q. omega (arith, l, q.0))), above (
 
 -- the tests let these through
 module _ (k next : Contents) where
-  pub may_take : (h : Handler) (n : ℕ) → Registers k h (Ok n) next → Takes k h
-  may_take h n m =
+  pub may_take : (h : Handler) (n : ℕ) → FitsWords h → Registers k h (Ok n) next → Takes k h
+  may_take h n fits m =
       let room = passed m.answers in
       let period = passed room.1 in
       let times = passed period.1 in
@@ -41,6 +41,7 @@ module _ (k next : Contents) where
           above h.longest h.shortest (λ l. times.0 (inr l)),
           some h.core (λ e. core.0 (inl e)),
           above 8 h.core (λ l. core.0 (inr l)),
+          fits,
         );
         short = above longest_round (round (added k h)) short.0;
       }

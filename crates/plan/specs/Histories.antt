@@ -2,6 +2,7 @@
 use Rattle.std.specs.Prelude.{ℕ, ◌+◌, List, [], ◌∷◌, ◌++◌, Ok, Err, Result}
 use Rattle.terms.specs.declared.handlers.Handler.{Handler}
 use Rattle.terms.specs.declared.refusals.Refusal.{Refusal}
+use Rattle.plan.specs.Rows.{FitsWords}
 use Rattle.plan.specs.Contents.{Contents, empty}
 use Rattle.plan.specs.Calls.{Registers, Joins, Reseats}
 
@@ -11,9 +12,10 @@ pub data Call : Type 0 where
   joined : ℕ → ℕ → Result (Unit {0}) Refusal → Call
   reseated : ℕ → ℕ → Result (Unit {0}) Refusal → Call
 
--- the call, made on a plan that holds k, leaves it with next
+-- the call, made on a plan that holds k, leaves it with next; the handler that is registered has
+-- numbers of 16 bits, as every one that can be passed
 abbrev pub Makes : Contents → Call → Contents → Type 0
-Makes k (registered h r) next = Registers k h r next
+Makes k (registered h r) next = FitsWords h × Registers k h r next
 Makes k (joined a b r) next = Joins k a b r next
 Makes k (reseated n c r) next = Reseats k n c r next
 

@@ -1,5 +1,5 @@
 -- Joins: a table of which handler goes before which. Handlers go by their places, from 0; a handler's number is one more.
-use Rattle.std.specs.Prelude.{◌≡◌, ℕ, ◌<◌, Bool, true, false, ◌⊎◌, List, [], length, get_or, slice_index_or, slice_set}
+use Rattle.std.specs.Prelude.{◌≡◌, ℕ, ◌<◌, Bool, true, false, List, [], length, get_or, slice_index_or, slice_set}
 use Rattle.terms.specs.declared.handlers.Handler.{Handler}
 use Rattle.plan.specs.Rows.{blank}
 
@@ -7,10 +7,6 @@ use Rattle.plan.specs.Rows.{blank}
 pub data Chain (joined : ℕ → ℕ → Bool) : ℕ → ℕ → Type 0 where
   one : {a b : ℕ} → joined a b ≡ true → Chain joined a b
   more : {a b c : ℕ} → joined a b ≡ true → Chain joined b c → Chain joined a c
-
--- a and b are one, or joins lead from a to b
-abbrev pub Leads : (ℕ → ℕ → Bool) → ℕ → ℕ → Type 0
-Leads joined a b = (a ≡ b) ⊎ Chain joined a b
 
 -- whether the table joins the handler at the place a before that at the place b
 abbrev pub joined_in : List (List Bool) → ℕ → ℕ → Bool

@@ -3,15 +3,22 @@ use Rattle.std.specs.Prelude.{◌≡◌, ℕ, ◌<◌, ◌≤◌, max, List, fol
 use Rattle.std.specs.Int.{◌∣◌}
 use Rattle.std.specs.List.{Contains as Has}
 use Rattle.multiples.specs.Multiples.{lcm}
+use Rattle.order.specs.Words.{FitsWord}
 use Rattle.terms.specs.declared.handlers.Handler.{Handler}
 
 -- what stands in a row where no handler is
 abbrev pub blank : Handler
 blank = record { period = 0; offset = 0; shortest = 0; longest = 0; core = 0 }
 
+-- its times are numbers of 16 bits, as those of every handler in memory are
+abbrev pub FitsWords : Handler → Type 0
+FitsWords h = FitsWord h.period × FitsWord h.offset × FitsWord h.shortest × FitsWord h.longest
+
 -- what every handler of a plan meets
 abbrev pub IsInRange : Handler → Type 0
-IsInRange h = (1 ≤ h.period) × (1 ≤ h.shortest) × (h.shortest ≤ h.longest) × (1 ≤ h.core) × (h.core ≤ 8)
+IsInRange h =
+    (1 ≤ h.period) × (1 ≤ h.shortest) × (h.shortest ≤ h.longest)
+    × (1 ≤ h.core) × (h.core ≤ 8) × FitsWords h
 
 -- the first n are in range
 abbrev pub AllInRange : ℕ → List Handler → Type 0
@@ -59,6 +66,15 @@ pub record LeastRound (hs : List Handler) (m : ℕ) : Type 0 where
   pub common : Common hs m
   pub least : Least hs m
   pub divides : Divides hs m
+
+-- every handler in the row has a period
+abbrev pub Recurring : List Handler → Type 0
+Recurring hs = (h : Handler) → Has hs h → 1 ≤ h.period
+
+-- the round of any such row is the least common multiple of its periods, however long the row
+-- and however large that is
+abbrev pub RoundIsLeastCommonMultiple : Type 0
+RoundIsLeastCommonMultiple = (hs : List Handler) → Recurring hs → LeastRound hs (round_of hs)
 
 -- no offset is above n
 abbrev pub Bounded : List Handler → ℕ → Type 0

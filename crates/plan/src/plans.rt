@@ -11,7 +11,7 @@ mod seating;
 /// Handlers, at most 64 of them, each with the number that its registering answered; and joins, by which one handler
 /// waits in each period for another to be done. The memory is the caller's, and there is no more of it than this.
 // Arrays beside a count, and no list: their memory is fixed, and `untouched` speaks of every byte after a refusal. The
-// place of a known number is written `number as usize - 1`: a function would ask for that fact, to promise this sum.
+// place of a known number is written `number as usize - 1`: a function for it would have to require that it is known.
 #[derive(Drop)]
 pub struct Plan {
     count: u8,

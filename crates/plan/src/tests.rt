@@ -14,7 +14,7 @@ enum Call {
 }
 
 // Calls made one after another, each with the number of its refusal, or `None` where it is accepted.
-const CALLS: [(Call, Option<u8>); 47] = [
+const CALLS: [(Call, Option<u8>); 50] = [
     // each field at its edges
     (Call::New, None),
     (Call::Register(0, 3, 1, 2, 1), Some(2)),
@@ -44,13 +44,17 @@ const CALLS: [(Call, Option<u8>); 47] = [
     (Call::Register(10, 3, 1, 2, 3), None),
     (Call::Register(20, 3, 1, 2, 1), None),
     (Call::Register(10, 4, 1, 2, 1), None),
+    // numbers that no handler has come first, also where the two are one
+    (Call::Join(0, 0), Some(6)),
+    (Call::Join(6, 6), Some(6)),
+    (Call::Join(4, 6), Some(6)),
     (Call::Join(0, 1), Some(6)),
     (Call::Join(6, 1), Some(6)),
     (Call::Join(1, 0), Some(6)),
     (Call::Join(1, 6), Some(6)),
     (Call::Join(1, 4), Some(7)),
     (Call::Join(5, 1), Some(7)),
-    // circles of one, two and three; a join made again
+    // circles of one, two and three; a join made again. No pair has other times and closes a circle too: joins keep times
     (Call::Join(1, 1), Some(8)),
     (Call::Join(1, 2), None),
     (Call::Join(1, 2), None),
@@ -58,7 +62,7 @@ const CALLS: [(Call, Option<u8>); 47] = [
     (Call::Join(2, 3), None),
     (Call::Join(3, 1), Some(8)),
     (Call::Join(1, 3), None),
-    // other cores
+    // other cores; a number that no handler has comes first
     (Call::Reseat(0, 9), Some(6)),
     (Call::Reseat(6, 9), Some(6)),
     (Call::Reseat(5, 0), Some(4)),
@@ -101,11 +105,11 @@ fn calls_answer_the_first_test_that_holds(rt: HostRuntime) {
     }
 }
 
-// So many handlers, each joined before the next.
+// So many handlers of one timing, each joined before the next.
 fn chain_of(count: u8) -> Result<Plan, Refusal> {
     let mut plan = Plan::new();
     for number in 0..count {
-        make(&mut plan, Call::Register(10, 3, 1, 2, 1))?;
+        make(&mut plan, Call::Register(673, 3, 1, 2, 1))?;
         if number > 0 {
             plan.join(number, number.saturating_add(1))?;
         }
@@ -117,6 +121,19 @@ fn chain_of(count: u8) -> Result<Plan, Refusal> {
 fn the_65th_handler_is_refused_before_all_else(rt: HostRuntime) -> Result<(), Fail> {
     let mut plan = chain_of(64)?;
     assert_eq!(rt; plan.count(), 64);
+    // handlers that the tests 2 to 5 would refuse, and one that none would
+    for (period, shortest, core) in [
+        (0, 1, 1),
+        (673, 0, 1),
+        (673, 1, 0),
+        (24929, 1, 1),
+        (673, 1, 1),
+    ] {
+        assert_eq!(rt;
+            answer(&mut plan, Call::Register(period, 0, shortest, 1, core)),
+            Some(1)
+        );
+    }
     assert_eq!(rt; answer(&mut plan, Call::Register(0, 0, 0, 0, 0)), Some(1));
     assert_eq!(rt; plan.count(), 64);
     Ok(())

@@ -3,3 +3,5 @@
 
 pub mod handlers;
 pub mod refusals;
+#[cfg(test)]
+mod tests;

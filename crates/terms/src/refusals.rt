@@ -1,5 +1,5 @@
 // Refusals: why a call is not taken, and leaves everything as it was.
-ghost use Rattle.std.specs.Prelude.{◌≡◌};
+ghost use Rattle.std.specs.Prelude.{◌≡◌, Decides};
 ghost use Rattle.terms.specs.Numbers.{refusal_number};
 
 use thiserror::Error;
@@ -28,9 +28,10 @@ pub enum Refusal {
 }
 
 impl Refusal {
-    /// The refusal's number, 1 to 9.
+    /// The refusal's number, 1 to 9. Two refusals are `==` exactly where they are one.
     pub fn number(self) -> u8
-        ensures { result ≡ refusal_number self }
+        ensures number { result ≡ refusal_number self }
+        ensures told { (x y : Refusal) → Decides (⟦<Refusal as PartialEq>⟧.eq x y) (x ≡ y) }
     {
         self as u8
     }

@@ -1,14 +1,13 @@
-use Rattle.std.proofs.Common.{◌≡◌, ◌<◌, sym, ap, ◌∙◌, arith}
-use Rattle.multiples.specs.Multiples.{gcd}
-use Rattle.multiples.proofs.Euclid.{gcd_turn, gcd_is}
+use Rattle.std.proofs.Common.{arith}
+use Rattle.std.specs.Int.{IsGcd}
+use Rattle.std.proofs.lemmas.Nat.Gcd.{IsGcd-from_zero, IsGcd-from_mod, same_from_IsGcd}
+use Rattle.multiples.proofs.Euclid.{gcd_is}
 use Rattle.multiples.proofs.greatest_common_divisor.Goals as goal
 
 pub loop-y-preserved : goal.loop-y-preserved
-loop-y-preserved c =
-    let some : 0 < c.loop-y.y = omega arith in
-    sym (gcd_turn c.loop-y.x c.loop-y.y some) ∙ c.loop-y.invariant
+loop-y-preserved c g h = c.loop-y.invariant g (IsGcd-from_mod _ _ g h)
 
 pub returns : goal.returns
 returns c =
-    let is : c.loop-y.x ≡ gcd c.args.a c.args.b = ap (λ y. gcd c.loop-y.x y) (sym c.loop-y-test.false) ∙ c.loop-y.invariant in
-    record { value = is; greatest = rw is (gcd_is c.args.a c.args.b) }
+    let is : IsGcd c.args.a c.args.b c.loop-y.x = c.loop-y.invariant _ (IsGcd-from_zero _ _ (omega arith)) in
+    record { value = same_from_IsGcd _ _ _ _ is (gcd_is c.args.a c.args.b); greatest = is }

@@ -1,8 +1,8 @@
-// Joins, and where they lead.
-ghost use Rattle.std.specs.Prelude.{◌≡◌, ℕ, ◌-◌, ◌<◌, true, Ok, Err, Decides, MatchResult};
+// Joins, and where they lead. Handlers go by their numbers here, as callers give them: 1 to 64.
+ghost use Rattle.std.specs.Prelude.{◌≡◌, ℕ, ◌-◌, ◌<◌, ◌≤◌, true, Ok, Err, Decides, MatchResult};
 ghost use Rattle.terms.specs.declared.handlers.Handler.{Handler};
-ghost use Rattle.plan.specs.Joins.{joined_in, Leads};
-ghost use Rattle.plan.specs.Routes.{Led, Follows};
+ghost use Rattle.plan.specs.Joins.{joined_in};
+ghost use Rattle.plan.specs.Routes.{Led, Follows, Reaches};
 ghost use Rattle.plan.specs.Contents.{contents};
 ghost use Rattle.plan.specs.Calls.{MayJoin, Joins, Untouched};
 
@@ -13,22 +13,21 @@ use std::convert::Infallible;
 use terms::handlers::Handler;
 use terms::refusals::Refusal;
 
-// Whether one of `from` is joined before `to`.
+// Whether the handler of one of the numbers `from` is joined before that of number `to`.
 fn led(joins: &[[bool; 64]; 64], from: &[u8], to: u8) -> bool
-    requires { to < 64 }
+    requires { (1 ≤ to) × (to ≤ 64) }
     ensures { Decides result (Led joins.now from.now to) }
 {
-    from.iter()
-        .any(|a| *a < 64 && joins[*a as usize][to as usize])
+    from.iter().any(|a| *a >= 1 && *a <= 64 && joins[*a as usize - 1][to as usize - 1])
 }
 
-// The places that some place of `from` is joined before.
+// The numbers of the handlers that one of the numbers `from` is joined before.
 fn follow(joins: &[[bool; 64]; 64], from: &[u8]) -> ArrayVec<u8, 64>
     ensures { Follows joins.now from.now result.items }
 {
     let mut next = ArrayVec::new();
     // A loop, since `extend` and `collect` answer a `Result` that has nowhere to go here.
-    for b in 0..64 {
+    for b in 1..=64 {
         if led(joins, from, b) {
             next.push(b);
         }
@@ -36,7 +35,7 @@ fn follow(joins: &[[bool; 64]; 64], from: &[u8]) -> ArrayVec<u8, 64>
     next
 }
 
-// The rule that goes along the joins: a level is the places that the joins of the level before lead to.
+// The rule that goes along the joins: a level is the numbers that the joins of the level before lead to.
 #[derive(Drop)]
 struct Along<'a> {
     joins: &'a [[bool; 64]; 64],
@@ -64,11 +63,12 @@ impl Rule for Along<'_> {
     }
 }
 
-// Whether `from` is `to`, or joins lead from the one to the other.
+// Whether `from` is `to`, or joins lead from the handler of the one number to that of the other.
 fn leads(joins: &[[bool; 64]; 64], from: u8, to: u8) -> bool
-    requires small { from < 64 }
+    requires first { (1 ≤ from) × (from ≤ 64) }
+    requires second { 1 ≤ to }
     requires inside { (a b : ℕ) → joined_in joins.now a b ≡ true → b < 64 }
-    ensures { Decides result (Leads (joined_in joins.now) from to) }
+    ensures { Decides result (Reaches joins.now from to) }
 {
     let mut level = ArrayVec::new();
     level.push(from);
@@ -89,7 +89,7 @@ impl Plan {
         if (first.period, first.offset) != (second.period, second.offset) {
             return Err(Refusal::OtherTimes);
         }
-        if leads(&self.joins, b - 1, a - 1) {
+        if leads(&self.joins, b, a) {
             return Err(Refusal::Circle);
         }
         Ok(())
@@ -101,7 +101,15 @@ impl Plan {
         ensures untouched { Untouched result self.old self.new }
     {
         self.test_join(a, b)?;
-        self.joins[a as usize - 1][b as usize - 1] = true;
+        let mut joins = self.joins;
+        joins[a as usize - 1][b as usize - 1] = true;
+        *self = Plan {
+            count: self.count,
+            round: self.round,
+            settling: self.settling,
+            handlers: self.handlers,
+            joins,
+        };
         Ok(())
     }
 }

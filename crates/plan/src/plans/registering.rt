@@ -1,5 +1,6 @@
 // New plans, and new handlers.
-ghost use Rattle.std.specs.Prelude.{◌≡◌, ◌+◌, List, IfOk, Ok, Err, MatchResult};
+ghost use Rattle.std.specs.Prelude.{◌≡◌, ◌+◌, List, IfOk, Ok, Err, Decides, MatchResult};
+ghost use Rattle.plan.specs.Rows.{RoundIsLeastCommonMultiple};
 ghost use Rattle.plan.specs.Contents.{contents, empty, round, ContentsTell, AllSound};
 ghost use Rattle.plan.specs.Calls.{accepts, field_tests, added, Takes, Registers, Untouched, OneAnswer};
 ghost use Rattle.plan.specs.Histories.{Call, After, accepted};
@@ -45,6 +46,8 @@ impl Plan {
         ensures tell { ContentsTell }
         ensures one { OneAnswer }
         ensures sound { AllSound }
+        ensures least { RoundIsLeastCommonMultiple }
+        ensures told { (x y : Handler) → Decides (⟦<Handler as PartialEq>⟧.eq x y) (x ≡ y) }
     {
         Plan {
             count: 0,
@@ -73,10 +76,16 @@ impl Plan {
         ensures untouched { Untouched result self.old self.new }
         ensures nth { (calls : List Call) → After calls (contents self.old) → IfOk result (λ n. n ≡ accepted calls + 1) }
     {
-        self.round = self.round_with(handler)?;
-        self.settling = self.settling.max(handler.offset);
-        self.handlers[self.count as usize] = handler;
-        self.count += 1;
+        let round = self.round_with(handler)?;
+        let mut handlers = self.handlers;
+        handlers[self.count as usize] = handler;
+        *self = Plan {
+            count: self.count + 1,
+            round,
+            settling: self.settling.max(handler.offset),
+            handlers,
+            joins: self.joins,
+        };
         Ok(self.count)
     }
 }

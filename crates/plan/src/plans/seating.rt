@@ -22,7 +22,15 @@ impl Plan {
         ensures untouched { Untouched result self.old self.new }
     {
         self.test_seat(number, core)?;
-        self.handlers[number as usize - 1].core = core;
+        let mut handlers = self.handlers;
+        handlers[number as usize - 1].core = core;
+        *self = Plan {
+            count: self.count,
+            round: self.round,
+            settling: self.settling,
+            handlers,
+            joins: self.joins,
+        };
         Ok(())
     }
 }

@@ -6,8 +6,8 @@ use Rattle.plan.proofs.plans.Plan.register.Goals as goal
 
 pub invariant_of-self : goal.invariant_of-self
 invariant_of-self c =
-    let t = c.in_ok-self.ensures in
-    record { holds = register_facts c.args.self.now c.args.handler t.0 c.in_ok-self.field-0 c.max-self.result t.1 c.max-self.ensures }
+    let t = c.in_ok-round.ensures in
+    record { holds = register_facts c.args.self.now c.args.handler t.0 c.in_ok-round.round c.max.result t.1 c.max.ensures }
 
 pub returns-clause-nth : goal.returns-clause-nth
 returns-clause-nth c = λ calls before. ap (λ n. n + 1) (sym (rows_length c.args.self.now) ∙ sym (accepted_count calls _ before))
