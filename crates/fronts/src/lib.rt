@@ -19,7 +19,7 @@ use step::following::Successors;
 use step::states::State;
 
 /// There are more states than rows.
-#[derive(Clone, Copy, PartialEq, Eq, Debug)]
+#[derive(Clone, Copy)]
 pub struct NoRoom;
 
 // Puts in the states that follow one, at `t`.

@@ -13,7 +13,8 @@ use crate::tables::{Inserted, Table};
 pub mod lent;
 pub mod tables;
 
-/// Elements that `==` tells apart: two that it says are equal are one. Of `Eq` it is known only that it is an equivalence.
+/// Elements that `==` tells apart: two that it says are equal are one. `Eq` alone would say only
+/// that `==` is an equivalence.
 pub trait Element: Copy + PartialEq {
     ghost told: { Tells Self.PartialEq.eq };
 }
@@ -51,8 +52,8 @@ pub struct Closed {
     pub count: usize,
 }
 
-/// Why a gathering did not close: the slice had no room for an element of this level (counted from 0), or the rule
-/// could not go on from it, with so many elements found by then.
+/// Why a gathering did not close: there was no room for an element of this level (counted from 0), or the rule could
+/// not go on from it, with so many elements found by then.
 #[derive(Drop)]
 pub enum Halt<F> {
     Full {

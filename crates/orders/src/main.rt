@@ -1,6 +1,12 @@
 // Reads a plan and the codes of its cores, and prints the plan, in which order the handlers of each core go and when
 // that changes.
+//
+// What a function prints is no value that a contract could name: those that only print have none.
 #![tactic(auto)]
+
+ghost use Rattle.std.specs.Prelude.{◌-◌, IfOk, MatchOption};
+ghost use Rattle.plan.specs.Contents.{contents, Known};
+ghost use Rattle.orders.specs.Rows.{IsOn, IsElsewhere, IsRowOf};
 
 use banks::codes::code_bank;
 use listing::{Listing, finish, read};
@@ -61,15 +67,28 @@ fn show_changes<D: Discipline>(
     Ok(changes)
 }
 
+// The handler of this number as a candidate, if it is one of the core.
+fn candidate_on(plan: &Plan, core: Core, number: u8) -> Option<Candidate>
+    ensures { MatchOption result
+        (Known (contents plan.now) number → IsElsewhere (contents plan.now) core (number - 1))
+        (IsOn (contents plan.now) core number) }
+{
+    plan.handler(number)
+        .filter(|handler| handler.core == core.number())
+        .and_then(|_| plan.candidate(number))
+}
+
 // The handlers of a core, in the order of their numbers.
-fn on_core(heap: Global, plan: &Plan, core: Core) -> Result<Vec<Candidate>, AllocError> {
-    (1..=plan.count())
-        .filter(|number| {
-            plan.handler(*number)
-                .is_some_and(|handler| handler.core == core.number())
-        })
-        .filter_map(|number| plan.candidate(number))
-        .collect(heap)
+fn on_core(heap: Global, plan: &Plan, core: Core) -> Result<Vec<Candidate>, AllocError>
+    ensures { IfOk result (λ row. IsRowOf (contents plan.now) core row.items) }
+{
+    let mut row = Vec::new(heap);
+    for number in 1..plan.count() + 1 {
+        if let Some(candidate) = candidate_on(plan, core, number) {
+            row.push(candidate)?;
+        }
+    }
+    Ok(row)
 }
 
 // Prints how many handlers there are, the round and the settling time, then each join.
@@ -112,7 +131,7 @@ impl Account {
 
 fn run(rt: &HostRuntime) -> anyhow::Result<()> {
     let text = io::read_to_string(rt.alloc(), rt.stdin())?;
-    let list = read(rt.alloc(), &text)?;
+    let list = read(&text)?;
     show_plan(rt, &list.plan)?;
     rt.println(Account::of(rt, &list)?)?;
     Ok(())

@@ -1,6 +1,12 @@
 // Reads a plan and the codes of its cores, and prints the run of the plan for which the arguments ask: how many units,
 // and the times that the starts take.
+//
+// What a function prints is no value that a contract could name: those that only print have none.
 #![tactic(auto)]
+
+ghost use Rattle.std.specs.Prelude.{IfOk};
+ghost use Rattle.plan.specs.Contents.{contents};
+ghost use Rattle.show.specs.Runs.{Takes};
 
 use anyhow::anyhow;
 use banks::codes::code_bank;
@@ -51,7 +57,9 @@ fn show_run<D: Discipline>(
     d: &D,
     units: u16,
     times: &[u16],
-) -> anyhow::Result<usize> {
+) -> anyhow::Result<usize>
+    ensures { IfOk result (Takes (contents plan.now) (D.first d.now) times.now units) }
+{
     let mut state = State::new();
     let mut rest = times;
     for t in 0..units as u64 {
@@ -68,7 +76,7 @@ fn show_run<D: Discipline>(
 
 fn run(rt: &HostRuntime) -> anyhow::Result<()> {
     let text = io::read_to_string(rt.alloc(), rt.stdin())?;
-    let list = read(rt.alloc(), &text)?;
+    let list = read(&text)?;
     if let Some(Asked { units, times }) = wanted_run(rt)? {
         let took = show_run(rt, &list.plan, &code_bank(&list.codes), units, &times)?;
         println!(rt; "units {units}, starts {took}")?;
@@ -79,3 +87,6 @@ fn run(rt: &HostRuntime) -> anyhow::Result<()> {
 fn main(rt: HostRuntime) -> io::Result<ExitCode> {
     finish(&rt, run(&rt))
 }
+
+#[cfg(test)]
+mod tests;

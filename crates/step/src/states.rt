@@ -6,9 +6,10 @@ use gather::Element;
 mod reading;
 
 /// The time left of each handler of a plan, by its place, the number less one. The places past the last handler
-/// belong to nobody: no answer depends on them, and they are handed on as they are.
+/// stand for no handler: no answer about a plan depends on them, and they are handed
+/// on as they are.
 // Places for 64 handlers, whatever the plan has: memory is fixed. The place of a known number is written
-// `number as usize - 1`: a function would ask for that fact, to promise this sum.
+// `number as usize - 1`: a function for it would have to require that the number is known.
 #[derive(Clone, Copy, PartialEq)]
 pub struct State {
     pub left: [u16; 64],
