@@ -1,5 +1,5 @@
 -- The codes of the three criteria.
-use Rattle.std.specs.Prelude.{◌≡◌, ◌≢◌, ℕ, ◌-◌, List, slice_index_or, Result, MatchResult}
+use Rattle.std.specs.Prelude.{◌≡◌, ℕ, ◌-◌, List, slice_index_or, Result, MatchResult}
 use Rattle.order.specs.declared.cores.Core.{Core}
 use Rattle.banks.specs.declared.Side.{Side}
 use Rattle.banks.specs.declared.Side.TheVariants.{Left, Right}
@@ -16,9 +16,13 @@ number_of FixedPriority = 1
 number_of RateMonotonic = 2
 number_of EarliestDeadline = 3
 
+-- some code has this number
+abbrev pub IsCode : ℕ → Type 0
+IsCode number = (code : Code) × (number_of code ≡ number)
+
 -- the code of that number, or the number back where no code has it
 abbrev pub Decodes : ℕ → Result Code UnknownCode → Type 0
-Decodes number r = MatchResult r (λ c. number_of c ≡ number) (λ e. (e.0 ≡ number) × ((c : Code) → number_of c ≢ number))
+Decodes number r = MatchResult r (λ c. number_of c ≡ number) (λ e. (e.0 ≡ number) × (¬ IsCode number))
 
 -- the criterion that a code stands for
 abbrev pub ranks_by : Code → Ranking

@@ -21,7 +21,7 @@ pub enum Code {
 }
 
 /// A number that is no code.
-#[derive(Clone, Copy, PartialEq, Eq, Debug, Error)]
+#[derive(Clone, Copy, Debug, Error)]
 #[error("there is no code {0}: codes are 1, 2 and 3")]
 pub struct UnknownCode(pub u8);
 

@@ -1,5 +1,7 @@
 -- The bytes at a place are those of the record that is read there.
 use Rattle.std.proofs.Common.{◌≡◌, ℕ, suc, ◌+◌, ◌*◌, ◌/◌, ◌%◌, ◌<◌, ◌≤◌, List, [], ◌∷◌, ◌++◌, length, drop, slice_index, sym, refl, ap, ap₂, ◌∙◌, drop-cons, arith}
+use Rattle.order.specs.Words.{FitsWord}
+use Rattle.plan.specs.Rows.{FitsWords}
 use Rattle.planfile.specs.Files.{two_bytes, handler_record}
 use Rattle.planfile.specs.Tests.{Standing, byte, word, kind_here, handler_here}
 use Rattle.planfile.specs.Theorems.{AreBytes}
@@ -25,6 +27,13 @@ module _ (bytes : List ℕ) where
       ∙ sym (ap (λ t. t ++ drop n bytes) (two_are (slice_index bytes i) (slice_index bytes j) (small j)))
 
   module _ (s : Standing) where
+    -- two bytes are a number of 16 bits
+    pub handler_fits : AreBytes bytes → FitsWords (handler_here bytes s)
+    handler_fits small = (fits 1, fits 3, fits 5, fits 7)
+      where
+        fits : (i : ℕ) → FitsWord (word bytes s i)
+        fits i = omega (arith, small (s.place + i), small (s.place + suc i))
+
     kind_there : (kind : ℕ) → kind_here bytes s ≡ kind → s.place < length bytes → drop s.place bytes ≡ kind ∷ drop (s.place + 1) bytes
     kind_there kind e l = one_there s.place (s.place + 0) (s.place + 1) (omega arith) (omega arith) l ∙ ap (λ x. x ∷ drop (s.place + 1) bytes) e
 

@@ -1,14 +1,15 @@
 -- The records of the cores, and the end, are read.
-use Rattle.std.proofs.Common.{◌≡◌, ℕ, suc, ◌+◌, ◌≤◌, List, [], ◌∷◌, ◌++◌, length, sym, refl, ap, subst, arith}
+use Rattle.std.proofs.Common.{◌≡◌, ℕ, suc, ◌+◌, ◌≤◌, List, [], ◌∷◌, ◌++◌, length, sym, refl, ap, subst, inl, inr, arith}
 use Rattle.std.specs.List.{Contains as Has}
 use Rattle.std.proofs.lemmas.List.{append_assoc, append-nil, length-drop}
 use Rattle.gather.proofs.Counting.{has_here, has_there}
+use Rattle.banks.specs.Codes.{IsCode}
 use Rattle.plan.specs.Contents.{Contents}
 use Rattle.planfile.specs.Files.{core_records}
-use Rattle.planfile.specs.Tests.{Standing, IsCode}
+use Rattle.planfile.specs.Tests.{Standing}
 use Rattle.planfile.specs.Reads.{IsFile}
 use Rattle.planfile.proofs.FiledRecords.{onward}
-use Rattle.planfile.proofs.FiledSteps.{Left, enough, core_read, end_read}
+use Rattle.planfile.proofs.FiledSteps.{Left, core_read, end_read}
 
 module _ (bytes : List ℕ) (k : Contents) where
   -- the end is read
@@ -18,8 +19,7 @@ module _ (bytes : List ℕ) (k : Contents) where
       record {
         stands = onward bytes s 0 4 s.first s.second s.cores;
         reached = last.reached;
-        ended = refl;
-        whole = omega (arith, length-drop (s.place + 1) bytes, ap length last.rest, enough bytes s (4 ∷ []) 0 l.rest (omega arith));
+        ended = inl (refl, inr (λ more. omega (arith, more, length-drop (s.place + 1) bytes, ap length last.rest), refl));
       }
 
   -- the codes to come are, and then the end

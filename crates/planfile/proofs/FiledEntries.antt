@@ -1,5 +1,5 @@
 -- Reading and entering one record: each has one answer.
-use Rattle.std.proofs.Common.{◌≡◌, ℕ, List, Ok, Err, Result, sym, refl, ap, ◌∙◌}
+use Rattle.std.proofs.Common.{◌≡◌, ℕ, List, Some, None, Option, Ok, Err, Result, sym, refl, ap, ◌∙◌, inl, inr}
 use Rattle.plan.specs.Contents.{Contents}
 use Rattle.plan.proofs.Answered.{one_answer, one_answer_each}
 use Rattle.planfile.specs.declared.faults.Cause.{Cause}
@@ -8,11 +8,14 @@ use Rattle.planfile.specs.declared.records.Record.{Record}
 use Rattle.planfile.specs.declared.records.Record.TheVariants.{Handler as HandlerRecord, Join as JoinRecord, Core as CoreRecord, End}
 use Rattle.planfile.specs.Tests.{Standing, NextIs, of_plan, CodeEnters, Enters}
 
-pub next_one : (bytes : List ℕ) (s : Standing) (r t : Result Record Fault) → NextIs bytes s r → NextIs bytes s t → t ≡ r
-next_one bytes s r t = one_answer (one_answer (one_answer (one_answer (one_answer (λ e f. f ∙ sym e)))))
+pub next_one : (bytes : List ℕ) (s : Standing) (r t : Result (Option Record) Fault) → NextIs bytes s r → NextIs bytes s t → t ≡ r
+next_one bytes s r t (inl x) (inl y) = one_answer (λ e f. f ∙ sym e) x.1 y.1
+next_one bytes s r t (inl x) (inr y) = absurd (y.0 x.0)
+next_one bytes s r t (inr x) (inl y) = absurd (x.0 y.0)
+next_one bytes s r t (inr x) (inr y) = one_answer (one_answer (one_answer (one_answer (one_answer (λ e f. f ∙ sym e))))) x.1 y.1
 
-pub ok_one : (x y : Record) → ◌≡◌ {A = Result Record Fault} (Ok y) (Ok x) → y ≡ x
-ok_one x y e = ap (λ (r : Result Record Fault). elim r [ Ok a ↦ a | Err e ↦ x ]) e
+pub ok_one : (x y : Record) → ◌≡◌ {A = Result (Option Record) Fault} (Ok (Some y)) (Ok (Some x)) → y ≡ x
+ok_one x y e = ap (λ (r : Result (Option Record) Fault). elim r [ Ok o ↦ elim o [ Some a ↦ a | None ↦ x ] | Err e ↦ x ]) e
 
 pub err_one : {A E : Type 0} (x y : E) → ◌≡◌ {A = Result A E} (Err y) (Err x) → y ≡ x
 err_one {A} {E} x y e = ap (λ (r : Result A E). elim r [ Ok a ↦ x | Err f ↦ f ]) e

@@ -5,10 +5,10 @@ use Rattle.std.proofs.lemmas.List.{append_assoc, append-nil, length-append, get_
 use Rattle.std.proofs.lemmas.List.Elements.{Contains-append_left, Contains-append_right}
 use Rattle.gather.proofs.Counting.{has_here}
 use Rattle.terms.specs.declared.handlers.Handler.{Handler}
-use Rattle.plan.specs.Rows.{blank, IsInRange, round_of, longest_round}
+use Rattle.plan.specs.Rows.{blank, IsInRange, Recurring, round_of, longest_round}
 use Rattle.plan.specs.Contents.{Contents, Sound}
 use Rattle.plan.specs.Calls.{added, Takes}
-use Rattle.plan.proofs.Rounds.{Recurring, round_least}
+use Rattle.plan.proofs.Rounds.{round_least}
 use Rattle.planfile.specs.Files.{handler_record, handler_records}
 use Rattle.planfile.specs.Tests.{Standing}
 use Rattle.planfile.proofs.FiledRecords.{onward}

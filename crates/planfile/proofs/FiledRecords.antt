@@ -1,11 +1,13 @@
 -- What the tests of a record let through, and which record it then is, by its kind.
-use Rattle.std.proofs.Common.{◌≡◌, ℕ, suc, ◌+◌, ◌<◌, ◌≤◌, ◌⊎◌, List, length, drop, slice_index, Ok, Result, sym, refl, ap, ◌∙◌, inl, inr, arith}
+use Rattle.std.proofs.Common.{◌≡◌, ℕ, suc, ◌+◌, ◌<◌, ◌≤◌, ◌⊎◌, ◌↔◌, Bool, true, false, List, length, drop, slice_index, Some, None, Option, Ok, Err, Result, is_some, MatchOption, Bor, sym, refl, ap, ◌∙◌, subst, zero-add, inl, inr, true≢false, arith}
+use Rattle.std.specs.Prelude.{◌==◌, ◌||◌, if◌then◌else◌}
 use Rattle.std.proofs.lemmas.Bool.{cases_eq, cases_lt}
-use Rattle.std.proofs.lemmas.List.{get_or-drop}
+use Rattle.std.proofs.lemmas.List.{get_or-drop, drop-drop, length-drop}
 use Rattle.planfile.specs.declared.faults.Fault.{Fault}
 use Rattle.planfile.specs.declared.records.Record.{Record}
 use Rattle.planfile.specs.declared.records.Record.TheVariants.{Handler as HandlerRecord, Join as JoinRecord, Core as CoreRecord, End}
-use Rattle.planfile.specs.Tests.{Standing, byte, kind_here, body, handler_here, record_here, past, Unknown, BodyMisplaced, NextIs}
+use Rattle.planfile.specs.Files.{record_length}
+use Rattle.planfile.specs.Tests.{Standing, outset, byte, kind_here, handler_here, record_here, past, Unknown, EndsInside, BodyMisplaced, RecordIs, NextIs}
 use Rattle.plan.proofs.Tested.{passed}
 
 -- the byte after a place, in what follows the place
@@ -15,6 +17,51 @@ byte_of bytes s left e i = sym (get_or-drop s.place bytes i 0) ∙ ap (λ l. sli
 -- the numbers a and b come before c and d: the first decides, and then the second
 abbrev pub Sooner : ℕ → ℕ → ℕ → ℕ → Type 0
 Sooner a b c d = (a < c) ⊎ ((a ≡ c) × (b < d))
+
+-- every record has a byte
+some_length : (kind : ℕ) → 1 ≤ record_length kind
+some_length kind = go (kind == 1) (kind == 2 || kind == 3)
+  where
+    go : (a b : Bool) → 1 ≤ (if a then 10 else (if b then 3 else 1))
+    go true b = omega arith
+    go false true = omega arith
+    go false false = omega arith
+
+-- ---- what is left
+
+module _ (bytes : List ℕ) (s : Standing) (left : List ℕ) (is : left ≡ drop s.place bytes) where
+  there : (i : ℕ) → byte left outset i ≡ byte bytes s i
+  there i = ap (λ n. slice_index left n) (zero-add i) ∙ sym (byte_of bytes s left (sym is) i)
+
+  kind_there : kind_here left outset ≡ kind_here bytes s
+  kind_there = there 0
+
+  pub known_there : ¬ Unknown bytes s → ¬ Unknown left outset
+  known_there known u = known (subst (λ k. (k ≡ 0) ⊎ (4 < k)) kind_there u)
+
+  long_there : EndsInside left outset ↔ EndsInside bytes s
+  long_there =
+      let long = ap length is ∙ length-drop s.place bytes in
+      let same = ap record_length kind_there in
+      let some = some_length (kind_here bytes s) in
+      (λ l. omega (arith, l, long, same, some), λ l. omega (arith, l, long, same, some))
+
+  record_there : record_here left outset ≡ record_here bytes s
+  record_there = rw (there 0, there 1, there 2, there 3, there 4, there 5, there 6, there 7, there 8, there 9) refl
+
+  rest_there : drop (record_length (kind_here left outset)) left ≡ drop (past bytes s).place bytes
+  rest_there =
+      ap (drop (record_length (kind_here left outset))) is ∙ drop-drop (record_length (kind_here left outset)) s.place bytes
+      ∙ ap (λ k. drop (s.place + record_length k) bytes) kind_there
+
+  -- what is decoded of the bytes that are left is so at their place in all
+  pub decoded_there : (r : Option (Record × Bor (List ℕ)))
+      → MatchOption r (EndsInside left outset) (λ f.
+      (¬ EndsInside left outset) × (f.0 ≡ record_here left outset) × (f.1.now ≡ drop (record_length (kind_here left outset)) left))
+      → MatchOption r (EndsInside bytes s) (λ f.
+      (¬ EndsInside bytes s) × (f.0 ≡ record_here bytes s) × (f.1.now ≡ drop (past bytes s).place bytes))
+  decoded_there None ends = long_there.0 ends
+  decoded_there (Some f) found = ((λ ends. found.0 (long_there.1 ends)), found.1 ∙ record_there, found.2 ∙ rest_there)
 
 module _ (bytes : List ℕ) (s : Standing) where
   -- ---- the tests
@@ -26,20 +73,21 @@ module _ (bytes : List ℕ) (s : Standing) where
     pub rises : s.kind ≤ kind_here bytes s
     pub few : kind_here bytes s ≡ 3 → s.cores < 8
     pub all : kind_here bytes s ≡ 4 → 8 ≤ s.cores
-    pub inside : s.place + suc (body bytes s) ≤ length bytes
+    pub inside : s.place + record_length (kind_here bytes s) ≤ length bytes
     pub later : kind_here bytes s ≡ 2 → s.kind ≡ 2 → Sooner s.first s.second (byte bytes s 1) (byte bytes s 2)
     pub turn : kind_here bytes s ≡ 3 → byte bytes s 1 ≡ suc s.cores
 
   not_below : (x y : ℕ) → ¬ (x < y) → y ≤ x
   not_below x y not = elim (cases_lt x y) [ inl l ↦ absurd (not l) | inr g ↦ g ]
 
-  pub past_all : Passes → NextIs bytes s (Ok (record_here bytes s))
-  past_all p =
+  pub past_all : ¬ (s.kind ≡ 4) → Passes → NextIs bytes s (Ok (Some (record_here bytes s)))
+  past_all going p =
       let some = p.some in
       let known = p.known in
       let rises = p.rises in
       let inside = p.inside in
-      inr (λ l. omega (arith, l, inside), inr (unknown, inr (misplaced, inr (λ l. omega (arith, l, inside), inr (body_misplaced, refl)))))
+      let long = some_length (kind_here bytes s) in
+      inr (going, inr (λ l. omega (arith, l, inside, long), inr (unknown, inr (misplaced, inr (λ l. omega (arith, l, inside), inr (body_misplaced, refl))))))
     where
       unknown : ¬ Unknown bytes s
       unknown (inl e) = omega (arith, e, p.some)
@@ -61,9 +109,25 @@ module _ (bytes : List ℕ) (s : Standing) where
           apart (inr l) (inr m) = omega (arith, l.1, m.1)
       body_misplaced (inr q) = q.1 (p.turn q.0)
 
-  pub passes : (r : Record) → NextIs bytes s (Ok r) → Passes
+  -- a record that is read stands before the end
+  pub before_end : (r : Record) → NextIs bytes s (Ok (Some r)) → ¬ (s.kind ≡ 4) × RecordIs bytes s (Ok (Some r))
+  before_end r (inl (ended, no_more)) = absurd (none_more (passed no_more).1)
+    where
+      none_more : ◌≡◌ {A = Result (Option Record) Fault} (Ok (Some r)) (Ok None) → ⊥
+      none_more e = true≢false (ap (λ (t : Result (Option Record) Fault). elim t [ Ok o ↦ is_some o | Err f ↦ true ]) e)
+  before_end r (inr q) = q
+
+  -- where no record comes, the end record has come, and the bytes end
+  pub at_end : NextIs bytes s (Ok None) → (s.kind ≡ 4) × (length bytes ≤ s.place)
+  at_end (inl (ended, no_more)) = (ended, not_below s.place (length bytes) (passed no_more).0)
+  at_end (inr (going, next)) = absurd (some_more (passed (passed (passed (passed (passed next).1).1).1).1).1)
+    where
+      some_more : ◌≡◌ {A = Result (Option Record) Fault} (Ok None) (Ok (Some (record_here bytes s))) → ⊥
+      some_more e = true≢false (sym (ap (λ (t : Result (Option Record) Fault). elim t [ Ok o ↦ is_some o | Err f ↦ true ]) e))
+
+  pub passes : (r : Record) → NextIs bytes s (Ok (Some r)) → Passes
   passes r next =
-      let rest = passed next in
+      let rest = passed (before_end r next).1 in
       let known = passed rest.1 in
       let placed = passed known.1 in
       let inside = passed placed.1 in
@@ -74,7 +138,7 @@ module _ (bytes : List ℕ) (s : Standing) where
         rises = not_below (kind_here bytes s) s.kind (λ l. placed.0 (inl l));
         few = λ e. let g = not_below 7 s.cores (λ l. placed.0 (inr (inl (e, l)))) in omega (arith, g);
         all = λ e. not_below s.cores 8 (λ l. placed.0 (inr (inr (e, l))));
-        inside = not_below (length bytes) (s.place + suc (body bytes s)) inside.0;
+        inside = not_below (length bytes) (s.place + record_length (kind_here bytes s)) inside.0;
         later = λ e was. later (λ q. ordered.0 (inl (e, was, q)));
         turn = λ e. elim (cases_eq (byte bytes s 1) (suc s.cores)) [ inl same ↦ same | inr ne ↦ absurd (ordered.0 (inr (e, ne))) ];
       }
@@ -89,14 +153,14 @@ module _ (bytes : List ℕ) (s : Standing) where
                 inr (same, not_below (byte bytes s 2) (suc s.second) (λ l. not (inr (sym same, omega (arith, l))))))
           ]
 
-  pub entry_is : (r : Record) → NextIs bytes s (Ok r) → ◌≡◌ {A = Result Record Fault} (Ok r) (Ok (record_here bytes s))
-  entry_is r next = (passed (passed (passed (passed (passed next).1).1).1).1).1
+  pub entry_is : (r : Record) → NextIs bytes s (Ok (Some r)) → ◌≡◌ {A = Result (Option Record) Fault} (Ok (Some r)) (Ok (Some (record_here bytes s)))
+  entry_is r next = (passed (passed (passed (passed (passed (before_end r next).1).1).1).1).1).1
 
   -- ---- the kinds
 
   -- the next record has so many bytes behind its kind, is this, and leaves the reader so
   pub record Shape (n : ℕ) (r : Record) (t : Standing) : Type 0 where
-    pub long : body bytes s ≡ n
+    pub long : record_length (kind_here bytes s) ≡ suc n
     pub entry : record_here bytes s ≡ r
     pub after : past bytes s ≡ t
 

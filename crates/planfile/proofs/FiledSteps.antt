@@ -3,12 +3,13 @@ use Rattle.std.proofs.Common.{◌≡◌, ℕ, suc, ◌+◌, ◌*◌, ◌/◌, �
 use Rattle.std.proofs.Math.Nat.{div-add-mod}
 use Rattle.std.proofs.lemmas.List.{drop-drop, length-drop}
 use Rattle.terms.specs.declared.handlers.Handler.{Handler}
+use Rattle.banks.specs.Codes.{IsCode}
 use Rattle.plan.specs.Contents.{Contents, count}
 use Rattle.plan.specs.Calls.{added, Takes, Registers, with_join, MayJoin}
 use Rattle.planfile.specs.declared.records.Record.{Record}
 use Rattle.planfile.specs.declared.records.Record.TheVariants.{Handler as HandlerRecord, Join as JoinRecord, Core as CoreRecord, End}
 use Rattle.planfile.specs.Files.{handler_record, join_record, core_record}
-use Rattle.planfile.specs.Tests.{Standing, byte, word, kind_here, handler_here, record_here, IsCode, Enters}
+use Rattle.planfile.specs.Tests.{Standing, byte, word, kind_here, handler_here, record_here, Enters}
 use Rattle.planfile.specs.Reads.{Reached, one_more}
 use Rattle.planfile.proofs.FiledRecords.{byte_of, Sooner, Passes, past_all, Shape, onward, handler_shape, join_shape, core_shape, end_shape}
 use Rattle.plan.proofs.Tested.{taken_registers, taken_joins}
@@ -33,7 +34,7 @@ module _ (bytes : List ℕ) where
       → Passes bytes s → Shape bytes s n r t → Enters k codes r (Ok tt) next more → Reached bytes t next more
   read_on s t k next codes more n r reached going p shape enters =
       subst (λ u. Reached bytes u next more) shape.after
-      (one_more (record_here bytes s) reached going (past_all bytes s p) (subst (λ x. Enters k codes x (Ok tt) next more) (sym shape.entry) enters))
+      (one_more (record_here bytes s) reached (past_all bytes s going p) (subst (λ x. Enters k codes x (Ok tt) next more) (sym shape.entry) enters))
 
   module _ (s : Standing) (k : Contents) (codes rest : List ℕ) where
     pub handler_read : (h : Handler) → Left s k codes (handler_record h ++ rest) → s.kind ≤ 1 → Takes k h

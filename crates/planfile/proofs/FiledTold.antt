@@ -7,10 +7,12 @@ use Rattle.std.proofs.lemmas.List.{append_assoc, length_push}
 use Rattle.std.proofs.lemmas.List.Elements.{Contains-push_cases}
 use Rattle.terms.specs.declared.handlers.Handler.{Handler}
 use Rattle.terms.specs.declared.refusals.Refusal.{Refusal}
+use Rattle.plan.specs.Rows.{FitsWords}
+use Rattle.banks.specs.Codes.{IsCode}
 use Rattle.plan.specs.Contents.{Contents, empty, Sound}
 use Rattle.plan.specs.Calls.{added, Takes, Registers, with_join, MayJoin, Joins}
 use Rattle.planfile.specs.Files.{handler_record, join_record, core_record, handler_records, join_records, core_records}
-use Rattle.planfile.specs.Tests.{Standing, outset, byte, kind_here, handler_here, of_plan, IsCode}
+use Rattle.planfile.specs.Tests.{Standing, outset, byte, kind_here, handler_here, of_plan}
 use Rattle.planfile.specs.Theorems.{AreBytes}
 use Rattle.planfile.proofs.FiledRecords.{Sooner, Passes, onward, handler_shape, join_shape, core_shape, end_shape}
 use Rattle.planfile.proofs.FiledBytes.{handler_there, pair_there, end_there}
@@ -20,9 +22,10 @@ use Rattle.plan.proofs.Tested.{may_take, may_join, empty_sound}
 
 -- ---- what is accepted
 
-pub taken : (k next : Contents) (h : Handler) (q : Result ℕ Refusal) → Registers k h q next → Ok tt ≡ of_plan q → Takes k h × (next ≡ added k h)
-taken k next h (Ok n) m e = (may_take k next h n m, m.leaves)
-taken k next h (Err f) m e = absurd (true≢false (ap is_ok e))
+pub taken : (k next : Contents) (h : Handler) (q : Result ℕ Refusal) → FitsWords h
+    → Registers k h q next → Ok tt ≡ of_plan q → Takes k h × (next ≡ added k h)
+taken k next h (Ok n) fits m e = (may_take k next h n fits m, m.leaves)
+taken k next h (Err f) fits m e = absurd (true≢false (ap is_ok e))
 
 pub joined : (k next : Contents) (a b : ℕ) (q : Result (Unit {0}) Refusal) → Joins k a b q next → Ok tt ≡ of_plan q → MayJoin k a b × (next ≡ with_join k a b)
 joined k next a b (Ok u) m e = (may_join k next a b u m, m.leaves)

@@ -1,5 +1,5 @@
 -- Bytes are a file exactly where they are the file that is written of its plan and codes.
-use Rattle.std.proofs.Common.{◌≡◌, ℕ, suc, List, [], ◌∷◌, ◌++◌, drop, Ok, sym, ap, ◌∙◌, subst, inl, inr, arith}
+use Rattle.std.proofs.Common.{◌≡◌, ℕ, suc, List, [], ◌∷◌, ◌++◌, drop, Some, Ok, sym, ap, ◌∙◌, subst, inl, inr, arith}
 use Rattle.std.proofs.lemmas.Bool.{cases_eq}
 use Rattle.std.proofs.lemmas.List.{drop_all}
 use Rattle.plan.specs.Contents.{Contents, Sound}
@@ -11,15 +11,19 @@ use Rattle.planfile.specs.Tests.{Standing, byte, kind_here, handler_here, record
 use Rattle.planfile.specs.Reads.{Reached, none, one_more, IsFile}
 use Rattle.planfile.specs.Theorems.{AreBytes, AreCodes, FilesAreWritten}
 use Rattle.planfile.proofs.FiledEntries.{ok_one}
-use Rattle.planfile.proofs.FiledRecords.{Passes, passes, entry_is, Shape, onward, handler_shape, join_shape, core_shape, end_shape}
+use Rattle.planfile.proofs.FiledBytes.{handler_fits}
+use Rattle.planfile.proofs.FiledRecords.{Passes, before_end, at_end, passes, entry_is, Shape, onward, handler_shape, join_shape, core_shape, end_shape}
 use Rattle.planfile.proofs.FiledTold.{taken, joined, Told, told_first, told_handler, told_join, told_core, told_end}
 use Rattle.planfile.proofs.FiledRead.{parts, written_is_read}
 
 module _ (bytes : List ℕ) (small : AreBytes bytes) where
-  module _ (s : Standing) (k next : Contents) (codes more : List ℕ) (r : Record) (told : Told bytes small s k codes) (going : ¬ (s.kind ≡ 4)) (is : NextIs bytes s (Ok r))
+  module _ (s : Standing) (k next : Contents) (codes more : List ℕ) (r : Record) (told : Told bytes small s k codes) (is : NextIs bytes s (Ok (Some r)))
       (enters : Enters k codes r (Ok tt) next more) where
     p : Passes bytes s
     p = passes bytes s r is
+
+    going : ¬ (s.kind ≡ 4)
+    going = (before_end bytes s r is).0
 
     -- the record that enters, by its kind
     enters_as : (n : ℕ) (x : Record) (t : Standing) → Shape bytes s n x t → Enters k codes x (Ok tt) next more
@@ -47,7 +51,7 @@ module _ (bytes : List ℕ) (small : AreBytes bytes) where
             let t = onward bytes s 9 1 s.first s.second s.cores in
             let shape = handler_shape bytes s e in
             let m = enters_as 9 (HandlerRecord h) t shape in
-            let q = taken k next h m.0 m.1 m.2 in
+            let q = taken k next h m.0 (handler_fits bytes s small) m.1 m.2 in
             moved t (added k h) codes shape.after q.1 m.3 (told_handler bytes small s k codes told going p e q.0)
 
         join : kind_here bytes s ≡ 2 → Told bytes small (past bytes s) next more
@@ -77,14 +81,15 @@ module _ (bytes : List ℕ) (small : AreBytes bytes) where
 
   pub told : {s : Standing} {k : Contents} {codes : List ℕ} → Reached bytes s k codes → Told bytes small s k codes
   told none = told_first bytes small
-  told (one_more {s} {k} {next} {codes} {more} r before going is enters) = told_next s k next codes more r (told before) going is enters
+  told (one_more {s} {k} {next} {codes} {more} r before is enters) = told_next s k next codes more r (told before) is enters
 
   file_is_written : (k : Contents) (codes : List ℕ) → IsFile bytes k codes → Sound k × AreCodes codes × (bytes ≡ file_of k codes)
   file_is_written k codes f =
       let head = λ (l : List ℕ). handler_records k ++ (join_records k ++ (core_records 1 codes ++ l)) in
       let all = told f.reached in
-      let last = all.ended f.ended in
-      let nothing : drop f.stands.place bytes ≡ [] = drop_all f.stands.place bytes (omega (arith, f.whole)) in (
+      let e = at_end bytes f.stands f.ended in
+      let last = all.ended e.0 in
+      let nothing : drop f.stands.place bytes ≡ [] = drop_all f.stands.place bytes e.1 in (
         all.sound,
         record { eight = omega (arith, all.cores, all.few, last.0); each = all.each },
         last.1 ∙ ap (λ l. head (4 ∷ l)) nothing ∙ sym (parts (handler_records k) (join_records k) (core_records 1 codes) (4 ∷ [])),

@@ -1,13 +1,13 @@
 -- The first bytes decide how bytes are read: no reader comes further than the longest file, and one record.
-use Rattle.std.proofs.Common.{◌≡◌, ℕ, ◌+◌, ◌*◌, ◌<◌, ◌≤◌, ◌⊎◌, Bool, true, false, List, ◌∷◌, ◌++◌, length, take, drop, min, Ok, Err, Result, refl, sym, ap, ◌∙◌, subst, inl, inr, length-append, arith}
+use Rattle.std.proofs.Common.{◌≡◌, ℕ, ◌+◌, ◌*◌, ◌<◌, ◌≤◌, ◌⊎◌, Bool, true, false, List, ◌∷◌, ◌++◌, length, take, drop, min, Some, None, Option, Ok, Err, Result, refl, sym, ap, ◌∙◌, subst, inl, inr, length-append, arith}
 use Rattle.std.specs.Prelude.{◌==◌, ◌||◌, if◌then◌else◌}
 use Rattle.std.proofs.lemmas.Bool.{cases_eq}
 use Rattle.std.proofs.lemmas.List.{get_or-take, length-take, length-drop}
 use Rattle.plan.specs.Contents.{Contents, count}
 use Rattle.planfile.specs.declared.faults.Fault.{Fault}
 use Rattle.planfile.specs.declared.records.Record.{Record}
-use Rattle.planfile.specs.Files.{handler_records, join_records, core_records}
-use Rattle.planfile.specs.Tests.{Standing, byte, kind_here, body, AtEnd, Unknown, KindMisplaced, EndsInside, BodyMisplaced, record_here, past, NextIs}
+use Rattle.planfile.specs.Files.{record_length, handler_records, join_records, core_records}
+use Rattle.planfile.specs.Tests.{Standing, byte, kind_here, AtEnd, Unknown, KindMisplaced, EndsInside, BodyMisplaced, record_here, past, NextIs}
 use Rattle.planfile.specs.Reads.{Reached, none, one_more, IsFile, IsRefused}
 use Rattle.planfile.specs.Theorems.{AreBytes, longest, FirstBytesDecide}
 use Rattle.planfile.proofs.FiledRecords.{passes}
@@ -18,7 +18,7 @@ use Rattle.planfile.proofs.Lengths.{handlers_length, cores_length, most_joins}
 
 inside : (bytes : List ℕ) {s : Standing} {k : Contents} {codes : List ℕ} → Reached bytes s k codes → s.place ≤ length bytes
 inside bytes none = omega arith
-inside bytes (one_more {s} r before going is enters) = (passes bytes s r is).inside
+inside bytes (one_more {s} r before is enters) = (passes bytes s r is).inside
 
 -- what is read so far, and what is left
 split : (bytes : List ℕ) (k : Contents) (codes rest : List ℕ) → bytes ≡ handler_records k ++ (join_records k ++ (core_records 1 codes ++ rest))
@@ -35,18 +35,14 @@ split bytes k codes rest e =
     )
 
 module _ (bytes : List ℕ) (small : AreBytes bytes) {s : Standing} {k : Contents} {codes : List ℕ} (reached : Reached bytes s k codes) where
-  going_low : ¬ (s.kind ≡ 4) → s.place < longest
-  going_low going =
-      let t = told bytes small reached in
-      omega (arith, split bytes k codes (drop s.place bytes) (t.going going), inside bytes reached, length-drop s.place bytes, most_joins k t.sound, t.sound.few, t.cores, t.few)
-
   low : s.place ≤ longest
   low =
+      let t = told bytes small reached in
       elim (cases_eq s.kind 4) [
         | inl end ↦
-            (let t = told bytes small reached in
-            omega (arith, split bytes k codes (4 ∷ drop s.place bytes) (t.ended end).1, inside bytes reached, length-drop s.place bytes, most_joins k t.sound, t.sound.few, t.cores, t.few))
-        | inr going ↦ omega (arith, going_low going)
+            omega (arith, split bytes k codes (4 ∷ drop s.place bytes) (t.ended end).1, inside bytes reached, length-drop s.place bytes, most_joins k t.sound, t.sound.few, t.cores, t.few)
+        | inr going ↦
+            omega (arith, split bytes k codes (drop s.place bytes) (t.going going), inside bytes reached, length-drop s.place bytes, most_joins k t.sound, t.sound.few, t.cores, t.few)
       ]
 
 -- ---- what is read of the first bytes is read of all
@@ -56,22 +52,23 @@ over : (P Q : Type 0) {E X Y : Type 0} → (P → Q) → (Q → P) → (X → Y)
 over P Q there back rest (inl (p, e)) = inl (there p, e)
 over P Q there back rest (inr (not, after)) = inr (λ q. not (back q), rest after)
 
-body_of : (k : ℕ) → (if k == 1 then 9 else (if k == 2 || k == 3 then 2 else 0)) ≤ 9
-body_of k = go (k == 1) (k == 2 || k == 3)
+-- no record is longer than that of a handler
+longest_record : (kind : ℕ) → record_length kind ≤ 10
+longest_record kind = go (kind == 1) (kind == 2 || kind == 3)
   where
-    go : (a b : Bool) → (if a then 9 else (if b then 2 else 0)) ≤ 9
+    go : (a b : Bool) → (if a then 10 else (if b then 3 else 1)) ≤ 10
     go true b = omega arith
     go false true = omega arith
     go false false = omega arith
 
-module _ (n : ℕ) (bytes : List ℕ) (enough : longest + 10 ≤ n) where
+module _ (n : ℕ) (bytes : List ℕ) (enough : longest + record_length 1 ≤ n) where
   abbrev front : List ℕ
   front = take n bytes
 
   front_length : length front ≡ min n (length bytes)
   front_length = length-take n bytes
 
-  module _ (s : Standing) (near : s.place < longest) where
+  module _ (s : Standing) (near : s.place ≤ longest) where
     same : (i : ℕ) → i ≤ 9 → byte front s i ≡ byte bytes s i
     same i l = get_or-take n bytes (s.place + i) 0 (omega (arith, near, l, enough))
 
@@ -85,38 +82,48 @@ module _ (n : ℕ) (bytes : List ℕ) (enough : longest + 10 ≤ n) where
     same_past : past front s ≡ past bytes s
     same_past = rw (same 0 (omega arith), same 1 (omega arith), same 2 (omega arith)) refl
 
-    small_body : body bytes s ≤ 9
-    small_body = body_of (kind_here bytes s)
+    small : record_length (kind_here bytes s) ≤ 10
+    small = longest_record (kind_here bytes s)
 
-    same_body : body front s ≡ body bytes s
-    same_body = rw kind refl
+    same_length : record_length (kind_here front s) ≡ record_length (kind_here bytes s)
+    same_length = ap record_length kind
 
-    same_next : (r : Result Record Fault) → NextIs front s r → NextIs bytes s r
-    same_next r =
-        over (AtEnd front s) (AtEnd bytes s) (λ l. omega (arith, l, front_length, near, enough)) (λ l. omega (arith, l, front_length, near, enough))
-        (over (Unknown front s) (Unknown bytes s) (λ u. rw (← kind) u) (λ u. rw kind u)
-        (over (KindMisplaced front s) (KindMisplaced bytes s) (λ u. rw (← kind) u) (λ u. rw kind u)
-        (over (EndsInside front s) (EndsInside bytes s)
-        (λ l. omega (arith, l, front_length, near, enough, same_body, small_body))
-        (λ l. omega (arith, l, front_length, near, enough, same_body, small_body))
-        (over (BodyMisplaced front s) (BodyMisplaced bytes s)
-        (λ u. rw (← kind, ← same 1 (omega arith), ← same 2 (omega arith)) u)
-        (λ u. rw (kind, same 1 (omega arith), same 2 (omega arith)) u)
-        (λ e. e ∙ ap Ok same_record)))))
+    same_next : (r : Result (Option Record) Fault) → NextIs front s r → NextIs bytes s r
+    same_next r (inl (ended, no_more)) =
+        inl (
+          ended,
+          over (s.place < length front) (s.place < length bytes)
+              (λ l. omega (arith, l, front_length))
+              (λ l. omega (arith, l, front_length, near, enough))
+              (λ e. e) no_more,
+        )
+    same_next r (inr (going, next)) =
+        inr (
+          going,
+          over (AtEnd front s) (AtEnd bytes s) (λ l. omega (arith, l, front_length, near, enough)) (λ l. omega (arith, l, front_length, near, enough))
+              (over (Unknown front s) (Unknown bytes s) (λ u. rw (← kind) u) (λ u. rw kind u)
+              (over (KindMisplaced front s) (KindMisplaced bytes s) (λ u. rw (← kind) u) (λ u. rw kind u)
+              (over (EndsInside front s) (EndsInside bytes s)
+              (λ l. omega (arith, l, front_length, near, enough, same_length, small))
+              (λ l. omega (arith, l, front_length, near, enough, same_length, small))
+              (over (BodyMisplaced front s) (BodyMisplaced bytes s)
+              (λ u. rw (← kind, ← same 1 (omega arith), ← same 2 (omega arith)) u)
+              (λ u. rw (kind, same 1 (omega arith), same 2 (omega arith)) u)
+              (λ e. e ∙ ap (λ x. Ok (Some x)) same_record))))) next,
+        )
 
   module _ (small : AreBytes front) where
     moved : {s : Standing} {k : Contents} {codes : List ℕ} → Reached front s k codes → Reached bytes s k codes
     moved none = none
-    moved (one_more {s} {k} {next} {codes} {more} r before going is enters) =
-        let near = going_low front small before going in
-        subst (λ t. Reached bytes t next more) (sym (same_past s near)) (one_more r (moved before) going (same_next s near (Ok r) is) enters)
+    moved (one_more {s} {k} {next} {codes} {more} r before is enters) =
+        let near = low front small before in
+        subst (λ t. Reached bytes t next more) (sym (same_past s near)) (one_more r (moved before) (same_next s near (Ok (Some r)) is) enters)
 
     file : (k : Contents) (codes : List ℕ) → IsFile front k codes → IsFile bytes k codes
     file k codes f = record {
       stands = f.stands;
       reached = moved f.reached;
-      ended = f.ended;
-      whole = omega (arith, f.whole, front_length, low front small f.reached, enough);
+      ended = same_next f.stands (low front small f.reached) (Ok None) f.ended;
     }
 
     refused : (f : Fault) → IsRefused front f → IsRefused bytes f
@@ -126,32 +133,20 @@ module _ (n : ℕ) (bytes : List ℕ) (enough : longest + 10 ≤ n) where
           contents = g.contents;
           codes = g.codes;
           reached = moved g.reached;
-          ended = g.ended;
-          more = omega (arith, g.more, front_length);
-          fault = g.fault;
+          next = same_next g.stands (low front small g.reached) (Err f) g.next;
         }
-    refused f (inr (inl g)) =
-        inr (inl record {
+    refused f (inr g) =
+        inr record {
           stands = g.stands;
           contents = g.contents;
           codes = g.codes;
           reached = moved g.reached;
-          going = g.going;
-          next = same_next g.stands (going_low front small g.reached g.going) (Err f) g.next;
-        })
-    refused f (inr (inr g)) =
-        inr (inr record {
-          stands = g.stands;
-          contents = g.contents;
-          codes = g.codes;
-          reached = moved g.reached;
-          going = g.going;
           entry = g.entry;
-          next = same_next g.stands (going_low front small g.reached g.going) (Ok g.entry) g.next;
+          next = same_next g.stands (low front small g.reached) (Ok (Some g.entry)) g.next;
           cause = g.cause;
           enters = g.enters;
           fault = g.fault;
-        })
+        }
 
 pub first_bytes_decide : FirstBytesDecide
 first_bytes_decide = record { file = file; refused = refused }

@@ -2,8 +2,9 @@
 use Rattle.std.proofs.Common.{◌≡◌, ℕ, ◌<◌, true, nat_lt, ◌&&◌, List, replicate, ltb-true, refl, sym, ap, ◌∙◌, lt_trans, lt_irrefl, arith}
 use Rattle.std.proofs.lemmas.Bool.{and_parts}
 use Rattle.std.proofs.lemmas.List.{get_or-replicate}
+use Rattle.banks.specs.declared.codes.Code.TheVariants.{FixedPriority}
 use Rattle.terms.specs.declared.handlers.Handler.{Handler}
-use Rattle.plan.specs.Rows.{blank}
+use Rattle.plan.specs.Rows.{blank, FitsWords}
 use Rattle.plan.specs.Joins.{Chain, one, more}
 use Rattle.plan.specs.Contents.{Contents, Sound, at}
 use Rattle.planfile.specs.Theorems.{AreCodes, LongestFile}
@@ -39,7 +40,9 @@ same_field f a b j = let q = joined_inside a b j in ap f (alike a q.0 ∙ sym (a
 fullest_sound : Sound fullest
 fullest_sound = record {
   few = omega arith;
-  ranges = λ i l. rw (alike i l) (omega arith, omega arith, omega arith, omega arith, omega arith);
+  ranges = λ i l.
+      let fits : FitsWords least_handler = (omega arith, omega arith, omega arith, omega arith) in
+      rw (alike i l) (omega arith, omega arith, omega arith, omega arith, omega arith, fits);
   short = omega arith;
   inside = joined_inside;
   periods = same_field (λ h. h.period);
@@ -50,7 +53,7 @@ fullest_sound = record {
 ones_codes : AreCodes ones
 ones_codes = record {
   eight = refl;
-  each = λ c h. let is : c ≡ 1 = sym h.2 ∙ get_or-replicate 8 h.0 1 c h.1 in (omega (arith, is), omega (arith, is));
+  each = λ c h. (FixedPriority, sym (get_or-replicate 8 h.0 1 c h.1) ∙ h.2);
 }
 
 pub longest_file : LongestFile

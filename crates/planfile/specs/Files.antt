@@ -1,8 +1,12 @@
 -- The file of a plan and the codes of its cores.
-use Rattle.std.specs.Prelude.{ℕ, suc, ◌/◌, ◌%◌, cond, List, [], ◌∷◌, ◌++◌}
+use Rattle.std.specs.Prelude.{ℕ, suc, ◌/◌, ◌%◌, ◌==◌, ◌||◌, if◌then◌else◌, cond, List, [], ◌∷◌, ◌++◌}
 use Rattle.std.specs.List.{flat_map, range_with_len}
 use Rattle.terms.specs.declared.handlers.Handler.{Handler}
 use Rattle.plan.specs.Contents.{Contents, count, joins}
+
+-- how many bytes a record of this kind has, its kind byte among them
+abbrev pub record_length : ℕ → ℕ
+record_length kind = if kind == 1 then 10 else (if kind == 2 || kind == 3 then 3 else 1)
 
 -- a number of two bytes, the high byte first
 abbrev pub two_bytes : ℕ → List ℕ

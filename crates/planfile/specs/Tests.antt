@@ -1,7 +1,8 @@
 -- What is tested of a file, record by record, for any bytes at all.
-use Rattle.std.specs.Prelude.{◌≡◌, ◌≢◌, ℕ, suc, ◌+◌, ◌*◌, ◌<◌, ◌≤◌, ◌⊎◌, ◌==◌, ◌||◌, if◌then◌else◌, List, [], ◌∷◌, ◌++◌, length, Ok, Err, Result, slice_index}
+use Rattle.std.specs.Prelude.{◌≡◌, ◌≢◌, ℕ, suc, ◌+◌, ◌*◌, ◌<◌, ◌≤◌, ◌⊎◌, ◌==◌, if◌then◌else◌, List, [], ◌∷◌, ◌++◌, length, Some, None, Option, Ok, Err, Result, slice_index}
 use Rattle.terms.specs.declared.handlers.Handler.{Handler}
 use Rattle.terms.specs.declared.refusals.Refusal.{Refusal}
+use Rattle.banks.specs.Codes.{IsCode}
 use Rattle.plan.specs.Contents.{Contents}
 use Rattle.plan.specs.Calls.{refuses, Registers, Joins}
 use Rattle.planfile.specs.declared.faults.Flaw.{Flaw}
@@ -11,6 +12,7 @@ use Rattle.planfile.specs.declared.faults.Cause.TheVariants.{File, Plan}
 use Rattle.planfile.specs.declared.faults.Fault.{Fault}
 use Rattle.planfile.specs.declared.records.Record.{Record}
 use Rattle.planfile.specs.declared.records.Record.TheVariants.{Handler as HandlerRecord, Join as JoinRecord, Core as CoreRecord, End}
+use Rattle.planfile.specs.Files.{record_length}
 
 -- ---- where a reader stands
 
@@ -38,10 +40,6 @@ module _ (bytes : List ℕ) (s : Standing) where
   abbrev pub kind_here : ℕ
   kind_here = byte 0
 
-  -- how many bytes follow a kind byte
-  abbrev pub body : ℕ
-  body = if kind_here == 1 then 9 else (if kind_here == 2 || kind_here == 3 then 2 else 0)
-
   -- ---- the tests of a record
 
   -- no byte is left
@@ -58,7 +56,7 @@ module _ (bytes : List ℕ) (s : Standing) where
 
   -- the bytes end inside the record
   abbrev pub EndsInside : Type 0
-  EndsInside = length bytes < s.place + suc body
+  EndsInside = length bytes < s.place + record_length kind_here
 
   -- the join does not come after the one before it, if there is one, or the core is not the next one
   abbrev pub BodyMisplaced : Type 0
@@ -79,7 +77,7 @@ module _ (bytes : List ℕ) (s : Standing) where
   -- past the record
   abbrev pub past : Standing
   past = record {
-    place = s.place + suc body;
+    place = s.place + record_length kind_here;
     kind = kind_here;
     first = if kind_here == 2 then byte 1 else s.first;
     second = if kind_here == 2 then byte 2 else s.second;
@@ -92,21 +90,25 @@ module _ (bytes : List ℕ) (s : Standing) where
 abbrev pub flaw : Standing → Flaw → Fault
 flaw s why = record { cause = File why; place = s.place }
 
--- what the next record is, or why there is none
-abbrev pub NextIs : List ℕ → Standing → Result Record Fault → Type 0
-NextIs bytes s =
+-- what the next record is, or why it is none, where no end record came
+abbrev pub RecordIs : List ℕ → Standing → Result (Option Record) Fault → Type 0
+RecordIs bytes s =
     refuses (AtEnd bytes s) (flaw s Cut)
     (refuses (Unknown bytes s) (flaw s UnknownKind)
     (refuses (KindMisplaced bytes s) (flaw s OutOfOrder)
     (refuses (EndsInside bytes s) (flaw s Cut)
     (refuses (BodyMisplaced bytes s) (flaw s OutOfOrder)
-    (λ r. r ≡ Ok (record_here bytes s))))))
+    (λ r. r ≡ Ok (Some (record_here bytes s)))))))
+
+-- behind the end record there is none: any byte there is out of order, whatever it is
+abbrev pub NoMore : List ℕ → Standing → Result (Option Record) Fault → Type 0
+NoMore bytes s = refuses (s.place < length bytes) (flaw s OutOfOrder) (λ r. r ≡ Ok None)
+
+-- the next record, none behind the end, or why the bytes do not go on so
+abbrev pub NextIs : List ℕ → Standing → Result (Option Record) Fault → Type 0
+NextIs bytes s r = ((s.kind ≡ 4) × NoMore bytes s r) ⊎ ((s.kind ≢ 4) × RecordIs bytes s r)
 
 -- ---- what a record makes of a plan and of the codes so far
-
--- a code is 1, 2 or 3
-abbrev pub IsCode : ℕ → Type 0
-IsCode c = (1 ≤ c) × (c ≤ 3)
 
 -- the plan's own tests, as causes of a fault
 abbrev pub of_plan : {A : Type 0} → Result A Refusal → Result (Unit {0}) Cause

@@ -1,10 +1,10 @@
 -- What is proved of files.
 use Rattle.std.specs.Prelude.{◌≡◌, ℕ, ◌+◌, ◌<◌, ◌≤◌, ◌↔◌, List, length, take, slice_index}
 use Rattle.std.specs.List.{Contains as Has}
+use Rattle.banks.specs.Codes.{IsCode}
 use Rattle.plan.specs.Contents.{Contents, Sound}
 use Rattle.planfile.specs.declared.faults.Fault.{Fault}
-use Rattle.planfile.specs.Files.{file_of}
-use Rattle.planfile.specs.Tests.{IsCode}
+use Rattle.planfile.specs.Files.{record_length, file_of}
 use Rattle.planfile.specs.Reads.{IsFile, IsRefused}
 
 -- the list is of bytes
@@ -45,5 +45,5 @@ pub record LongestFile : Type 0 where
 
 -- what the first bytes are read as, so many that there is room for one record more than in any file, all bytes are read as: nothing behind them is looked at
 pub record FirstBytesDecide : Type 0 where
-  pub file : (n : ℕ) (bytes : List ℕ) → longest + 10 ≤ n → AreBytes (take n bytes) → (k : Contents) (codes : List ℕ) → IsFile (take n bytes) k codes → IsFile bytes k codes
-  pub refused : (n : ℕ) (bytes : List ℕ) → longest + 10 ≤ n → AreBytes (take n bytes) → (f : Fault) → IsRefused (take n bytes) f → IsRefused bytes f
+  pub file : (n : ℕ) (bytes : List ℕ) → longest + record_length 1 ≤ n → AreBytes (take n bytes) → (k : Contents) (codes : List ℕ) → IsFile (take n bytes) k codes → IsFile bytes k codes
+  pub refused : (n : ℕ) (bytes : List ℕ) → longest + record_length 1 ≤ n → AreBytes (take n bytes) → (f : Fault) → IsRefused (take n bytes) f → IsRefused bytes f

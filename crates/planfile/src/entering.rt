@@ -7,6 +7,7 @@ ghost use Rattle.planfile.specs.Tests.{CodeEnters, Enters};
 use crate::faults::{Cause, Flaw};
 use crate::records::Record;
 use arrayvec::ArrayVec;
+use banks::codes::Code;
 use plan::plans::Plan;
 
 // The code of the next core.
@@ -14,7 +15,7 @@ fn enter_code(codes: &mut ArrayVec<u8, 8>, code: u8) -> Result<(), Cause>
     requires { array_vec_len codes.old < 8 }
     ensures { CodeEnters codes.old.items code result codes.new.items }
 {
-    if code == 0 || code > 3 {
+    if Code::try_from(code).is_err() {
         return Err(Cause::File(Flaw::NoSuchCode));
     }
     codes.push(code);

@@ -1,7 +1,10 @@
 // Why a file is not read or written.
-ghost use Rattle.std.specs.Prelude.{◌≡◌};
+ghost use Rattle.std.specs.Prelude.{◌≡◌, Decides};
 ghost use Rattle.planfile.specs.Numbers.{flaw_number, cause_number};
+ghost use Rattle.planfile.specs.declared.faults.Cause.{Cause};
 ghost use Rattle.planfile.specs.declared.faults.Cause.TheVariants.{Plan};
+ghost use Rattle.planfile.specs.declared.faults.Fault.{Fault};
+ghost use Rattle.planfile.specs.declared.faults.Flaw.{Flaw};
 
 use terms::refusals::Refusal;
 use thiserror::Error;
@@ -22,9 +25,10 @@ pub enum Flaw {
 }
 
 impl Flaw {
-    /// The flaw's number, 10 to 14.
+    /// The flaw's number, 10 to 14. Flaws are equal by `==` where they are the same.
     pub fn number(self) -> u8
-        ensures { result ≡ flaw_number self }
+        ensures number { result ≡ flaw_number self }
+        ensures same { (x y : Flaw) → Decides (⟦<Flaw as PartialEq>⟧.eq x y) (x ≡ y) }
     {
         self as u8
     }
@@ -49,9 +53,12 @@ impl From<Refusal> for Cause {
 }
 
 impl Cause {
-    /// The number of the test that failed: 1 to 8 of the plan's, 10 to 13 of the file's.
+    /// The number of the test that failed: 1 to 8 of the plan's, 10 to 13 of the file's. Causes, and so faults, are equal
+    /// by `==` where they are the same.
     pub fn number(self) -> u8
-        ensures { result ≡ cause_number self }
+        ensures number { result ≡ cause_number self }
+        ensures same { (x y : Cause) → Decides (⟦<Cause as PartialEq>⟧.eq x y) (x ≡ y) }
+        ensures same_fault { (x y : Fault) → Decides (⟦<Fault as PartialEq>⟧.eq x y) (x ≡ y) }
     {
         match self {
             Cause::File(flaw) => flaw.number(),

@@ -6,6 +6,8 @@ ghost use Rattle.planfile.specs.Theorems.{WrittenIsRead, LongestFile};
 ghost use Rattle.planfile.specs.Writes.{record_if_known, Puts, Writes};
 
 use crate::faults::Flaw;
+use crate::records::{CORE, END, HANDLER, JOIN, record_length};
+use banks::codes::Code;
 use plan::plans::Plan;
 use terms::handlers::Handler;
 
@@ -19,7 +21,7 @@ fn handler_record(handler: Handler) -> [u8; 10]
     let [shortest_high, shortest_low] = handler.shortest.to_be_bytes();
     let [longest_high, longest_low] = handler.longest.to_be_bytes();
     [
-        1,
+        HANDLER,
         period_high,
         period_low,
         offset_high,
@@ -69,7 +71,7 @@ fn put_join(plan: &Plan, first: u8, second: u8, buffer: &mut [u8], place: usize)
     ensures { Puts buffer.old place (record_if_joined (contents plan.now) first second) result buffer.new }
 {
     if plan.joined(first, second) {
-        put(buffer, place, &[2, first, second])
+        put(buffer, place, &[JOIN, first, second])
     } else {
         place
     }
@@ -103,7 +105,7 @@ fn put_cores(codes: &[u8; 8], buffer: &mut [u8], place: usize) -> usize
 {
     let mut next = place;
     for core in 1..=8 {
-        next = put(buffer, next, &[3, core, codes[core as usize - 1]]);
+        next = put(buffer, next, &[CORE, core, codes[core as usize - 1]]);
     }
     next
 }
@@ -115,7 +117,7 @@ fn put_file(plan: &Plan, codes: &[u8; 8], buffer: &mut [u8]) -> usize
     let after_handlers = put_handlers(plan, buffer, 0);
     let after_joins = put_joins(plan, buffer, after_handlers);
     let after_cores = put_cores(codes, buffer, after_joins);
-    put(buffer, after_cores, &[4])
+    put(buffer, after_cores, &[END])
 }
 
 // ---- the length of a file
@@ -123,7 +125,11 @@ fn put_file(plan: &Plan, codes: &[u8; 8], buffer: &mut [u8]) -> usize
 fn join_length(plan: &Plan, first: u8, second: u8) -> usize
     ensures { result ≡ length (record_if_joined (contents plan.now) first second) }
 {
-    if plan.joined(first, second) { 3 } else { 0 }
+    if plan.joined(first, second) {
+        record_length(JOIN)
+    } else {
+        0
+    }
 }
 
 fn joins_length_from(plan: &Plan, first: u8) -> usize
@@ -146,11 +152,14 @@ fn joins_length(plan: &Plan) -> usize
     length
 }
 
-// Ten bytes for each handler, three for each join and each core, and the end.
+// The records of the handlers, of the joins, of the cores, and the end.
 fn file_length(plan: &Plan, codes: &[u8; 8]) -> usize
     ensures { result ≡ length (file_of (contents plan.now) codes.now) }
 {
-    10 * plan.count() as usize + joins_length(plan) + 3 * codes.len() + 1
+    record_length(HANDLER) * plan.count() as usize
+        + joins_length(plan)
+        + record_length(CORE) * codes.len()
+        + record_length(END)
 }
 
 /// Writes the file of the plan and these codes, of the cores 1 to 8, to the front of the buffer, and answers its
@@ -160,7 +169,7 @@ pub fn write(plan: &Plan, codes: &[u8; 8], buffer: &mut [u8]) -> Result<usize, F
     ensures read_back { WrittenIsRead }
     ensures longest { LongestFile }
 {
-    if !codes.iter().all(|code| (1..=3).contains(code)) {
+    if codes.iter().any(|code| Code::try_from(*code).is_err()) {
         return Err(Flaw::NoSuchCode);
     }
     if buffer.len() < file_length(plan, codes) {

@@ -5,13 +5,10 @@ ghost use Rattle.planfile.specs.Theorems.{FilesAreWritten, EveryFileIsReadOnce, 
 ghost use Rattle.planfile.specs.Reads.{IsFile, IsRefused, Reads};
 
 use crate::entering::enter;
-use crate::faults::{Cause, Fault, Flaw};
+use crate::faults::Fault;
 use crate::reading::Reader;
 use arrayvec::ArrayVec;
 use plan::plans::Plan;
-
-// The kind of the end record.
-const END: u8 = 4;
 
 // Enters every record of the file into an empty plan, and into no codes.
 fn enter_all(bytes: &[u8], plan: &mut Plan, codes: &mut ArrayVec<u8, 8>) -> Result<(), Fault>
@@ -20,16 +17,10 @@ fn enter_all(bytes: &[u8], plan: &mut Plan, codes: &mut ArrayVec<u8, 8>) -> Resu
     ensures { MatchResult result (λ _. IsFile bytes.now (contents plan.new) codes.new.items) (IsRefused bytes.now) }
 {
     let mut reader = Reader::new(bytes);
-    while reader.kind != END {
-        let place = reader.place;
-        let next = reader.next_record()?;
+    let mut place = 0;
+    while let Some(next) = reader.next_record()? {
         enter(plan, codes, next).map_err(|cause| Fault { cause, place })?;
-    }
-    if reader.place < bytes.len() {
-        return Err(Fault {
-            cause: Cause::File(Flaw::OutOfOrder),
-            place: reader.place,
-        });
+        place = reader.place;
     }
     Ok(())
 }
