@@ -9,10 +9,10 @@ use Rattle.plan.specs.Contents.{Contents}
 use Rattle.plan.specs.Calls.{refuses}
 use Rattle.model.specs.declared.verdicts.Verdict.{Verdict}
 use Rattle.model.specs.declared.verdicts.Verdict.TheVariants.{Kept, Missed, RowsShort}
-use Rattle.model.specs.Telling.{is_kept}
 use Rattle.model.specs.Verdicts.{VerdictIs}
 use Rattle.step.specs.declared.states.State.{State}
 use Rattle.laws.specs.Checks.{Tables, most_rows, Unfit, Judges, MarksAfter, KeptRows}
+use Rattle.checks.specs.Walks.{is_kept}
 
 module _ (p : Contents) (D : Choice) where
   pub judged : (x : Tables) (v : Verdict) → length x.front ≡ length x.back → length x.front ≤ most_rows → length x.marks ≤ most_rows

@@ -1,15 +1,19 @@
 // Checks: what is true of every run of a plan, found by following the states of one time to those of the next.
 #![tactic(auto)]
 
+ghost use Rattle.std.specs.Prelude.{IfOk};
+ghost use Rattle.gather.specs.Levels.{Tells};
 ghost use Rattle.plan.specs.Contents.{contents};
+ghost use Rattle.model.specs.Theorems.{VerdictsAreTrue};
 ghost use Rattle.laws.specs.Checks.{tables, Checks};
+ghost use Rattle.laws.specs.Outcomes.{VerdictHolds};
 ghost use Rattle.laws.specs.Laws.{ChecksCanBeTrusted};
 
 mod rounds;
 
 use crate::rounds::judge;
 use gather::lent::Lent;
-use model::verdicts::Verdict;
+use model::verdicts::{Rows, Verdict};
 use order::disciplines::Discipline;
 use plan::plans::Plan;
 use step::states::State;
@@ -32,7 +36,13 @@ pub fn check<D: Discipline>(
     back: &mut [State],
     marks: &mut [State],
 ) -> Result<Verdict, Refusal>
-    ensures checks { Checks (contents plan.now) (D.first d.now) (tables front.old back.old marks.old) result (tables front.new back.new marks.new) }
+    ensures checks { Checks (contents plan.now) (D.first d.now)
+        (tables front.old back.old marks.old) result (tables front.new back.new marks.new) }
+    ensures holds { IfOk result (VerdictHolds (contents plan.now) (D.first d.now)
+        (tables front.old back.old marks.old) (tables front.new back.new marks.new)) }
+    // Verdicts are equal by `==` exactly where they are the same, and so are the rows that they name.
+    ensures equality { Tells ⟦<Verdict as PartialEq>⟧.eq × Tells ⟦<Rows as PartialEq>⟧.eq }
+    ensures verdicts { VerdictsAreTrue }
     ensures trusted { ChecksCanBeTrusted }
 {
     if front.len() != back.len() || front.len() > MOST_ROWS || marks.len() > MOST_ROWS {

@@ -44,8 +44,8 @@ is_joins : (event : Event) (x y : ℕ) → event ≡ changes (joined (suc x) (su
 is_joins event x y e = ap (λ z. joins_here z x y) e ∙ and_from (suc x == suc x) (suc y == suc y) (eq-eqb (suc x) (suc x) refl) (eq-eqb (suc y) (suc y) refl)
 
 joined_made : (event : Event) (k next : Contents) → Makes k event next → (x y : ℕ) → next.joined x y ≡ (k.joined x y || joins_here event x y)
-joined_made (changes (registered h (Ok n))) k next m x y = ap (λ (z : Contents). z.joined x y) m.leaves ∙ sym (or-false (k.joined x y))
-joined_made (changes (registered h (Err e))) k next m x y = ap (λ (z : Contents). z.joined x y) m.leaves ∙ sym (or-false (k.joined x y))
+joined_made (changes (registered h (Ok n))) k next m x y = ap (λ (z : Contents). z.joined x y) m.1.leaves ∙ sym (or-false (k.joined x y))
+joined_made (changes (registered h (Err e))) k next m x y = ap (λ (z : Contents). z.joined x y) m.1.leaves ∙ sym (or-false (k.joined x y))
 joined_made (changes (joined a b (Ok u))) k next m x y = ap (λ (z : Contents). z.joined x y) m.leaves
 joined_made (changes (joined a b (Err e))) k next m x y = ap (λ (z : Contents). z.joined x y) m.leaves ∙ sym (or-false (k.joined x y))
 joined_made (changes (reseated n c (Ok u))) k next m x y = ap (λ (z : Contents). z.joined x y) m.leaves ∙ sym (or-false (k.joined x y))

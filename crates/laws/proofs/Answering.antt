@@ -111,7 +111,7 @@ abbrev pub tables : ℕ → ℕ → ℕ → Tables
 tables front back marks = record { front = replicate front (row_of []); back = replicate back (row_of []); marks = replicate marks (row_of []) }
 
 some_answer : (h : History) (q : Question) → Lawful q → (event : Event) × (next : Contents) × (question event ≡ q) × Makes h.left event next
-some_answer h (registering x) law = let a = registers_some h.left x in (changes (registered x a.0), a.1, refl, a.2)
+some_answer h (registering x) law = let a = registers_some h.left x in (changes (registered x a.0), a.1, refl, (law, a.2))
 some_answer h (joining x y) law = let a = joins_some h.left (after_sound h.events h.left h.after) x y in (changes (joined x y a.0), a.1, refl, a.2)
 some_answer h (seating n c) law = let a = reseats_some h.left n c in (changes (seats n c a.0), a.1, refl, a.2)
 some_answer h (checking D front back marks) law =

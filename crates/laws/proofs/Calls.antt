@@ -63,4 +63,4 @@ among_made h k event a =
 pub registers_count : RegistersCount
 registers_count h before rest x n e =
     let m = made_after h.events h.left h.after before rest (changes (registered x (Ok n))) e in
-    omega (arith, register_number m.0 m.1 x n m.3, taken_count before m.0 m.2)
+    omega (arith, register_number m.0 m.1 x n m.3.1, taken_count before m.0 m.2)

@@ -8,7 +8,7 @@ use Rattle.gather.specs.Levels.{Once}
 use Rattle.gather.proofs.Counting.{has_cases, once_fits}
 use Rattle.plan.specs.Contents.{Contents, Sound, count}
 use Rattle.plan.specs.Joins.{Chain, one, more}
-use Rattle.plan.proofs.Routes.{chain_more}
+use Rattle.plan.proofs.Chains.{chain_more}
 use Rattle.model.proofs.Deciding.{least}
 use Rattle.model.proofs.Lists.{has_none, once_none, once_cons, has_counting}
 

@@ -4,6 +4,7 @@ use Rattle.std.proofs.lemmas.List.{append_assoc, append-nil}
 use Rattle.banks.proofs.Lawful.{coded_lawful}
 use Rattle.order.specs.Laws.{IsLawfulChoice}
 use Rattle.terms.specs.declared.refusals.Refusal.TheVariants.{NoPeriod, NoSuchHandler, Circle, UnfitTables}
+use Rattle.plan.specs.Rows.{FitsWords}
 use Rattle.plan.specs.Contents.{Contents, Sound, empty}
 use Rattle.plan.specs.Calls.{added, Takes, Registers, with_join, ClosesCircle, Joins, Reseats}
 use Rattle.plan.specs.Calls.{reseated as with_core}
@@ -50,11 +51,28 @@ linked = with_join pair 1 2
 
 -- ---- registers, joins and reseats
 
+fits_never : FitsWords never
+fits_never = (omega arith, omega arith, omega arith, omega arith)
+
+fits_short : FitsWords short
+fits_short = (omega arith, omega arith, omega arith, omega arith)
+
+fits_long : FitsWords long
+fits_long = (omega arith, omega arith, omega arith, omega arith)
+
 takes_short : Takes empty short
-takes_short = record { room = omega arith; range = (omega arith, omega arith, omega arith, omega arith, omega arith); short = omega arith }
+takes_short = record {
+  room = omega arith;
+  range = (omega arith, omega arith, omega arith, omega arith, omega arith, fits_short);
+  short = omega arith;
+}
 
 takes_long : Takes moved long
-takes_long = record { room = omega arith; range = (omega arith, omega arith, omega arith, omega arith, omega arith); short = omega arith }
+takes_long = record {
+  room = omega arith;
+  range = (omega arith, omega arith, omega arith, omega arith, omega arith, fits_long);
+  short = omega arith;
+}
 
 refuses_never : Registers empty never (Err NoPeriod) empty
 refuses_never = record { answers = inr (λ l. omega (arith, l), inl (refl, refl)); leaves = refl }
@@ -83,12 +101,15 @@ reseats_short = record { answers = inr (λ n. n (omega arith, omega arith), inr 
 -- ---- checks
 
 single_sound : Sound single
-single_sound = makes_sound empty single (changes (registered short (Ok 1))) (taken_registers empty short takes_short) empty_sound
+single_sound =
+    makes_sound empty single (changes (registered short (Ok 1)))
+    (fits_short, taken_registers empty short takes_short) empty_sound
 
 linked_sound : Sound linked
 linked_sound =
     makes_sound pair linked (changes (joined 1 2 (Ok tt))) joins_pair
-    (makes_sound moved pair (changes (registered long (Ok 2))) (taken_registers moved long takes_long)
+    (makes_sound moved pair (changes (registered long (Ok 2)))
+    (fits_long, taken_registers moved long takes_long)
     (makes_sound single moved (changes (reseated 1 2 (Ok tt))) reseats_short single_sound))
 
 -- working tables of different lengths
@@ -136,14 +157,14 @@ unfolding events
 events_lead =
     call (law, refused, refl)
     (call (law, few_rows.1, refl)
-    (call refuses_never
-    (call (taken_registers empty short takes_short)
+    (call (fits_never, refuses_never)
+    (call (fits_short, taken_registers empty short takes_short)
     (call (law, kept.1, refl)
     (call (law, few_marks.1, refl)
     (call refuses_circle
     (call refuses_absent
     (call reseats_short
-    (call (taken_registers moved long takes_long)
+    (call (fits_long, taken_registers moved long takes_long)
     (call joins_pair
     (call (law, missed.1, refl) end)))))))))))
 

@@ -1,5 +1,5 @@
--- What a check found among the calls of a history: kept, missed, and the marks that it left.
-use Rattle.std.proofs.Common.{◌≡◌, ℕ, ◌-◌, length, Ok, sym, ap, subst}
+-- The verdict of a check holds of all runs of the plan.
+use Rattle.std.proofs.Common.{◌≡◌, ℕ, ◌-◌, ◌<◌, length, take, Ok, refl, sym, ap, subst, arith}
 use Rattle.std.specs.Result.{result_unwrap_or}
 use mathlib.Core.Path.{fun_ext}
 use Rattle.order.specs.declared.cores.Core.{Core}
@@ -7,15 +7,19 @@ use Rattle.order.specs.declared.candidates.Candidate.{Candidate}
 use Rattle.order.specs.Laws.{Choice, IsLawfulChoice}
 use Rattle.plan.specs.Contents.{Contents, Sound}
 use Rattle.model.specs.declared.verdicts.Verdict.{Verdict}
-use Rattle.model.specs.declared.verdicts.Verdict.TheVariants.{Kept, Missed}
-use Rattle.model.specs.Verdicts.{VerdictIs}
-use Rattle.model.proofs.Kept.{kept_is_never_late as never_late, kept_counts_all_marks, missed_is_the_earliest as earliest}
+use Rattle.model.specs.declared.verdicts.Verdict.TheVariants.{Kept}
+use Rattle.model.specs.Runs.{mark}
+use Rattle.model.specs.Verdicts.{Closes, VerdictIs}
+use Rattle.model.proofs.Kept.{kept_is_never_late, kept_counts_all_marks, missed_is_the_earliest}
+use Rattle.model.proofs.Marks.{mark_before, round_some}
 use Rattle.laws.specs.Checks.{Tables, Checks, LeavesMarks}
-use Rattle.laws.specs.Histories.{checks, History, Among}
-use Rattle.laws.specs.Laws.{KeptIsNeverLate, MissedIsTheEarliest, MarksAreLeft}
+use Rattle.laws.specs.Histories.{checks}
+use Rattle.laws.specs.Laws.{VerdictsHold}
+use Rattle.laws.specs.Outcomes.{AreTheMarks, KeptHolds, VerdictHolds}
 use Rattle.plan.proofs.Tested.{passed}
-use Rattle.laws.proofs.Sounds.{after_sound}
 use Rattle.laws.proofs.Calls.{among_made}
+use Rattle.laws.proofs.Short.{exact}
+use Rattle.laws.proofs.Sounds.{after_sound}
 
 -- choices that answer every question alike are one
 pub one_choice : (D E : Choice) → ((k : Core) (a b : Candidate) (t : ℕ) → D k a b t ≡ E k a b t) → D ≡ E
@@ -27,36 +31,50 @@ judged k D was is v c =
     let r = (passed c.answers).1 in
     subst (VerdictIs k D (length was.front) (length was.marks)) (sym (ap (λ x. result_unwrap_or x v) r.2)) r.1
 
--- a check with this verdict, of a plan that can be
-pub record Found (k : Contents) (D : Choice) (was is : Tables) (v : Verdict) : Type 0 where
-  pub sound : Sound k
-  pub lawful : IsLawfulChoice D
-  pub checked : Checks k D was (Ok v) is
-  pub verdict : VerdictIs k D (length was.front) (length was.marks) v
+-- what the verdict of a check says holds, if the plan can be and the discipline is lawful
+module _ (k : Contents) (ok : Sound k) (D : Choice) (law : IsLawfulChoice D) (was is : Tables) where
+  abbrev Is : Verdict → Type 0
+  Is = VerdictIs k D (length was.front) (length was.marks)
 
-pub found : (h : History) (k : Contents) (D : Choice) (was is : Tables) (v : Verdict) → Among h.events k (checks D was (Ok v) is) → Found k D was is v
-found h k D was is v a =
-    let m = (among_made h k (checks D was (Ok v) is) a).1 in
-    record { sound = after_sound a.before k a.held; lawful = m.0; checked = m.1; verdict = judged k D was is v m.1 }
-
-pub kept_is_never_late : KeptIsNeverLate
-kept_is_never_late h k D was is n c a =
-    let f = found h k D was is (Kept n c) a in
-    never_late k D f.sound f.lawful (length was.front) (length was.marks) n c f.verdict
-
-pub missed_is_the_earliest : MissedIsTheEarliest
-missed_is_the_earliest h k D was is t n a =
-    earliest k D (length was.front) (length was.marks) t n (found h k D was is (Missed t n) a).verdict
-
-pub marks_are_left : MarksAreLeft
-marks_are_left h k D was is n c a =
-    let f = found h k D was is (Kept n c) a in
-    let left : LeavesMarks k D (n - 1) c was.marks is.marks = f.checked.leaves in
-    let all = (kept_counts_all_marks k D f.sound f.lawful (length was.front) (length was.marks) n c f.verdict).1 in (
-      left.fits,
+  marks_left : (n c : ℕ) → Is (Kept n c) → LeavesMarks k D (n - 1) c was.marks is.marks
+      → AreTheMarks k D (take c is.marks)
+  marks_left n c v left =
+      let all = (kept_counts_all_marks k D ok law (length was.front) (length was.marks) n c v).1 in
       record {
         once = left.marks.once;
         each = λ j v s. left.marks.each v (all j v s);
         only = λ x h. (let m = left.marks.only x h in (m.1.0, m.0, m.1.2, m.2));
-      },
-    )
+      }
+
+  -- the first mark time that brings nothing new gives kept
+  first_closes : (n c : ℕ) → Is (Kept n c) → (j : ℕ) → j < n → ¬ Closes k D j
+  first_closes n c v j l =
+      let sooner : mark k j < v.0 = omega (arith, v.2.0, mark_before k j n l, round_some k ok) in
+      (v.1 (mark k j) sooner).opens j refl
+
+  kept_holds : (n c : ℕ) → Checks k D was (Ok (Kept n c)) is → KeptHolds k D is.marks n c
+  kept_holds n c checked =
+      let v = judged k D was is (Kept n c) checked in
+      let left : LeavesMarks k D (n - 1) c was.marks is.marks = checked.leaves in
+      record {
+        never_late = kept_is_never_late k D ok law (length was.front) (length was.marks) n c v;
+        closes = v.2.3;
+        first = first_closes n c v;
+        fits = left.fits;
+        marks = marks_left n c v left;
+      }
+
+  pub verdict_holds : (v : Verdict) → Checks k D was (Ok v) is → VerdictHolds k D was is v
+  verdict_holds v checked =
+      let found = judged k D was is v checked in
+      record {
+        kept = λ n c e. kept_holds n c (subst (λ w. Checks k D was (Ok w) is) e checked);
+        missed = λ t n e.
+            missed_is_the_earliest k D (length was.front) (length was.marks) t n (subst Is e found);
+        short = exact k D ok was v found;
+      }
+
+pub verdicts_hold : VerdictsHold
+verdicts_hold h k D was is v a =
+    let made = (among_made h k (checks D was (Ok v) is) a).1 in
+    verdict_holds k (after_sound a.before k a.held) D made.0 was is v made.1

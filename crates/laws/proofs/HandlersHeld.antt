@@ -84,8 +84,8 @@ module _ (events : List Event) (k next : Contents) (held : Held events k) where
           rw there (stays_last events (changes (reseated n c (Ok tt))) (i + 1) (at k i).core (λ d s. omega (arith, s.0, known.0)) (held.cores i low))
 
   held_made : (event : Event) → Makes k event next → Held (events ++ event ∷ []) next
-  held_made (changes (registered h (Ok n))) m = held_register h n m
-  held_made (changes (registered h (Err e))) m = rests (changes (registered h (Err e))) refl (λ n d s. s) (ap (λ (x : Contents). x.handlers) m.leaves)
+  held_made (changes (registered h (Ok n))) m = held_register h n m.1
+  held_made (changes (registered h (Err e))) m = rests (changes (registered h (Err e))) refl (λ n d s. s) (ap (λ (x : Contents). x.handlers) m.1.leaves)
   held_made (changes (joined a b (Ok u))) m = rests (changes (joined a b (Ok u))) refl (λ n d s. s) (ap (λ (x : Contents). x.handlers) m.leaves)
   held_made (changes (joined a b (Err e))) m = rests (changes (joined a b (Err e))) refl (λ n d s. s) (ap (λ (x : Contents). x.handlers) m.leaves)
   held_made (changes (reseated n c (Ok u))) m = held_seat n c m

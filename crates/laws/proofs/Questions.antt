@@ -36,7 +36,7 @@ Answers k (seating n c) a next = (r : Result (Unit {0}) Refusal) × (a ≡ accep
 Answers k (checking D front back marks) a next = ChecksSome k D front back marks a next
 
 makes_answers : (k next : Contents) (event : Event) → Makes k event next → Answers k (question event) (answer event) next
-makes_answers k next (changes (registered h r)) m = (r, refl, m)
+makes_answers k next (changes (registered h r)) m = (r, refl, m.1)
 makes_answers k next (changes (joined a b r)) m = (r, refl, m)
 makes_answers k next (changes (reseated n c r)) m = (r, refl, m)
 makes_answers k next (checks D was r is) m = record { was = was; is = is; result = r; fronts = refl; backs = refl; mark_rows = refl; gives = refl; checked = m.1; leaves = m.2 }

@@ -11,8 +11,7 @@ use Rattle.model.specs.Runs.{StateAt}
 use Rattle.model.specs.Verdicts.{Outnumber, Closes, Passes, VerdictIs}
 use Rattle.model.proofs.Marks.{mark_apart}
 use Rattle.laws.specs.Checks.{Tables}
-use Rattle.laws.specs.Laws.{TooFew, EndsAt, RunsShort, turn, ShortExactly, ShortIsExact}
-use Rattle.laws.proofs.Findings.{found}
+use Rattle.laws.specs.Outcomes.{TooFew, EndsAt, RunsShort, turn, ShortExactly}
 
 module _ (p : Contents) (D : Choice) (ok : Sound p) (x : Tables) where
   -- the time gives no verdict
@@ -90,12 +89,9 @@ module _ (p : Contents) (D : Choice) (ok : Sound p) (x : Tables) where
   is_first Working other t e is s = none_first is.0 is.1 Working other t e is.2.0 tt s.few
   is_first Marks other t e is s = none_first is.0 is.1 Marks other t e is.2.0 is.2.1 s.few
 
-  exact : (v : Verdict) → Is v → ShortExactly p D x v
+  pub exact : (v : Verdict) → Is v → ShortExactly p D x v
   exact v is = record {
     when = (λ s. (s.0, s.1, short_so s.0 s.1 (subst Is s.2 is)), so_short v is);
     such = λ rows t e. short_so rows t (subst Is e is);
     first = λ rows other t e q s. is_first rows other t e (subst Is q is) s;
   }
-
-pub short_is_exact : ShortIsExact
-short_is_exact h k D was is v a = let f = found h k D was is v a in exact k D f.sound was v f.verdict

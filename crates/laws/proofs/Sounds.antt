@@ -12,8 +12,8 @@ use Rattle.laws.specs.Histories.{Event, changes, checks, Makes, After, new, then
 -- ---- histories
 
 change_sound : (k next : Contents) (call : Call) → Changes k call next → Sound k → Sound next
-change_sound k next (registered h (Ok n)) m s = subst Sound (sym m.leaves) (added_sound k s h (may_take k next h n m))
-change_sound k next (registered h (Err e)) m s = subst Sound (sym m.leaves) s
+change_sound k next (registered h (Ok n)) m s = subst Sound (sym m.1.leaves) (added_sound k s h (may_take k next h n m.0 m.1))
+change_sound k next (registered h (Err e)) m s = subst Sound (sym m.1.leaves) s
 change_sound k next (joined a b (Ok u)) m s = subst Sound (sym m.leaves) (join_sound k s a b (may_join k next a b u m))
 change_sound k next (joined a b (Err e)) m s = subst Sound (sym m.leaves) s
 change_sound k next (seats n c (Ok u)) m s = subst Sound (sym m.leaves) (seat_sound k s n c (may_seat k next n c u m))
@@ -29,7 +29,7 @@ after_sound _ _ new = empty_sound
 after_sound _ _ (then {events} {k} {next} event before made) = makes_sound k next event made (after_sound events k before)
 
 change_one : (k next other : Contents) (call : Call) → Changes k call next → Changes k call other → other ≡ next
-change_one k next other (registered h r) x y = (one_answer_each.register k h r r next other x y).1
+change_one k next other (registered h r) x y = (one_answer_each.register k h r r next other x.1 y.1).1
 change_one k next other (joined a b r) x y = (one_answer_each.join k a b r r next other x y).1
 change_one k next other (seats n c r) x y = (one_answer_each.reseat k n c r r next other x y).1
 

@@ -1,19 +1,26 @@
--- All that is promised of checks in any mixture of calls.
+-- All that is promised of verdicts, and of checks in any mixture of calls.
+use Rattle.model.specs.Theorems.{VerdictsAreTrue}
+use Rattle.model.proofs.Exists.{one_verdict}
+use Rattle.model.proofs.Kept.{kept_is_never_late, kept_counts_all_marks, missed_is_the_earliest}
 use Rattle.laws.specs.Laws.{ChecksCanBeTrusted}
-use Rattle.laws.proofs.Findings.{kept_is_never_late, missed_is_the_earliest, marks_are_left}
-use Rattle.laws.proofs.Short.{short_is_exact}
+use Rattle.laws.proofs.Findings.{verdicts_hold}
 use Rattle.laws.proofs.Calls.{calls_fit, registers_count}
 use Rattle.laws.proofs.Questions.{questions_decide}
 use Rattle.laws.proofs.Answering.{every_call_answers}
 use Rattle.laws.proofs.Alikeness.{alike_checks_answer_alike}
 use Rattle.laws.proofs.Example.{some_history_has_each_kind}
 
+pub verdicts_are_true : VerdictsAreTrue
+verdicts_are_true = record {
+  one_verdict = one_verdict;
+  kept_is_never_late = kept_is_never_late;
+  kept_counts_all_marks = kept_counts_all_marks;
+  missed_is_the_earliest = missed_is_the_earliest;
+}
+
 pub checks_can_be_trusted : ChecksCanBeTrusted
 checks_can_be_trusted = record {
-  kept_is_never_late = kept_is_never_late;
-  missed_is_the_earliest = missed_is_the_earliest;
-  short_is_exact = short_is_exact;
-  marks_are_left = marks_are_left;
+  verdicts_hold = verdicts_hold;
   calls_fit = calls_fit;
   questions_decide = questions_decide;
   every_call_answers = every_call_answers;

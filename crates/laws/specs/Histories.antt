@@ -4,6 +4,7 @@ use Rattle.std.specs.List.{Contains as Has}
 use Rattle.order.specs.Laws.{Choice, IsLawfulChoice}
 use Rattle.terms.specs.declared.handlers.Handler.{Handler}
 use Rattle.terms.specs.declared.refusals.Refusal.{Refusal}
+use Rattle.plan.specs.Rows.{FitsWords}
 use Rattle.plan.specs.Contents.{Contents, empty}
 use Rattle.plan.specs.Calls.{seated}
 use Rattle.plan.specs.Histories.{Call, registered, joined, reseated}
@@ -56,9 +57,10 @@ question (changes (joined a b r)) = joining a b
 question (changes (reseated n c r)) = seating n c
 question (checks D was r is) = checking D (length was.front) (length was.back) (length was.marks)
 
--- a question about a check is put under a lawful discipline
+-- what can be asked: of a handler, one in numbers of 16 bits, as every one that can be passed; and
+-- of a check, one under a lawful discipline
 abbrev pub Lawful : Question → Type 0
-Lawful (registering h) = Unit {0}
+Lawful (registering h) = FitsWords h
 Lawful (joining a b) = Unit {0}
 Lawful (seating n c) = Unit {0}
 Lawful (checking D front back marks) = IsLawfulChoice D

@@ -1,4 +1,5 @@
 pub mod Checks
+pub mod Outcomes
 pub mod Histories
 pub mod Example
 pub mod Laws

@@ -37,7 +37,16 @@ pub candidate_of : (p : Contents) → Sound p → (i : ℕ) → i < count p → 
 candidate_of p ok i h =
     let r = ok.ranges i h in
     let few : count p ≤ 64 = ok.few in (
-      record { number = suc i; period = (at p i).period; offset = (at p i).offset; low = omega arith; high = omega arith; comes = r.0 },
+      record {
+        number = suc i;
+        period = (at p i).period;
+        offset = (at p i).offset;
+        low = omega arith;
+        high = omega arith;
+        comes = r.0;
+        period_fits = r.5.0;
+        offset_fits = r.5.1;
+      },
       record {
         number = refl;
         period = ap (λ (k : ℕ). (at p k).period) (sym (place_number i));

@@ -10,5 +10,6 @@ pub mod Made
 pub mod Marks
 pub mod One
 pub mod Repeat
+pub mod Same
 pub mod Unique
 pub mod Waiting

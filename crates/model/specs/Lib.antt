@@ -1,5 +1,4 @@
 pub mod Runs
-pub mod Telling
 pub mod Theorems
 pub mod Units
 pub mod Verdicts

@@ -60,3 +60,10 @@ abbrev pub OneVerdict : Type 0
 OneVerdict =
     (p : Contents) (D : Choice) → Sound p → (working marks : ℕ)
     → (v : Verdict) × VerdictIs p D working marks v × ((w : Verdict) → VerdictIs p D working marks w → w ≡ v)
+
+-- all that is proved of verdicts
+pub record VerdictsAreTrue : Type 0 where
+  pub one_verdict : OneVerdict
+  pub kept_is_never_late : KeptIsNeverLate
+  pub kept_counts_all_marks : KeptCountsAllMarks
+  pub missed_is_the_earliest : MissedIsTheEarliest

@@ -1,4 +1,5 @@
-// What a plan does: one unit of time, runs, lateness, and the verdict. Nearly all of it are definitions and theorems.
+// What a plan does: one unit of time, runs, lateness, and the verdict. Nearly all of it is definitions
+// and theorems.
 #![tactic(auto)]
 
 pub mod verdicts;

@@ -1,7 +1,5 @@
 // Verdicts.
 
-mod telling;
-
 /// The rows that a check may find too few: those of a working table, or those of the mark table.
 #[derive(Clone, Copy, PartialEq, Debug)]
 pub enum Rows {
@@ -18,11 +16,4 @@ pub enum Verdict {
     Missed { time: u64, number: u8 },
     /// There were more states than rows by this time.
     RowsShort { rows: Rows, time: u64 },
-}
-
-/// A miss: when, and whose.
-#[derive(Clone, Copy, PartialEq, Debug)]
-pub struct Miss {
-    pub time: u64,
-    pub number: u8,
 }

@@ -1,11 +1,26 @@
 use Rattle.std.proofs.Common.{rules, ◌≡◌, ◌≤◌, ◌∙◌, length, sym, ap, arith}
-use Rattle.laws.proofs.Trusted.{checks_can_be_trusted}
+use Rattle.plan.proofs.Facts.{sound}
+use Rattle.model.proofs.Same.{rows_told, verdict_told}
+use Rattle.laws.proofs.Trusted.{checks_can_be_trusted, verdicts_are_true}
+use Rattle.laws.proofs.Findings.{verdict_holds}
 use Rattle.laws.specs.Checks.{most_rows}
 use Rattle.checks.proofs.Tables.{judged, marks_after}
 use Rattle.checks.proofs.check.Goals as goal
 
 pub returns-then-front-back-clause-trusted : goal.returns-then-front-back-clause-trusted
 returns-then-front-back-clause-trusted g c = checks_can_be_trusted
+
+pub returns-then-front-back-clause-verdicts : goal.returns-then-front-back-clause-verdicts
+returns-then-front-back-clause-verdicts g c = verdicts_are_true
+
+pub returns-then-front-back-clause-equality : goal.returns-then-front-back-clause-equality
+returns-then-front-back-clause-equality g c = (verdict_told, rows_told)
+
+pub returns-clause-equality : goal.returns-clause-equality
+returns-clause-equality g c = (verdict_told, rows_told)
+
+pub returns-clause-verdicts : goal.returns-clause-verdicts
+returns-clause-verdicts g c = verdicts_are_true
 
 pub returns-clause-trusted : goal.returns-clause-trusted
 returns-clause-trusted g c = checks_can_be_trusted
@@ -24,3 +39,8 @@ returns-clause-checks g c =
       leaves = marks_after _ _ _ _ c.new.result c.judge.new.marks c.new.ensures.whole c.judge.result (c.judge.ensures.marks room lows) (c.judge.ensures.frame room lows)
           (λ kept. let f = c.judge.ensures.frame room lows kept in let lent = sym (f.2.lent ∙ f.1.lent ∙ c.new.ensures.lent) in search rules);
     }
+
+pub returns-clause-holds : goal.returns-clause-holds
+returns-clause-holds g c =
+    verdict_holds _ (sound c.args.plan.now) _ (g.met.D.Discipline.lawful c.args.d.now) _ _
+    c.judge.result (returns-clause-checks g c)
