@@ -1,27 +1,18 @@
 -- The codes of numbers.
-use Rattle.std.proofs.Common.{◌≡◌, ℕ, zero, suc, ◌+◌, ◌<◌, ◌≤◌, List, map, length, slice_index_or, slice_index, slice_set, Ok, Err, Result, refl, sym, ◌∙◌, subst, inl, inr, arith}
+use Rattle.std.proofs.Common.{◌≡◌, ℕ, ◌+◌, ◌<◌, ◌≤◌, List, map, length, slice_index_or, slice_index, slice_set, Ok, Err, Result, refl, sym, ◌∙◌, subst, inl, inr, arith}
 use Rattle.std.proofs.lemmas.Bool.{cases_eq}
 use Rattle.std.proofs.lemmas.List.{length-set, length-map, get_or-map, get_or-set_same, get_or-set_other, ext_get_or}
 use Rattle.std.proofs.lemmas.List.Elements.{Contains-get_or}
 use Rattle.std.specs.Result.{IsOk}
 use Rattle.banks.specs.declared.codes.Code.{Code}
-use Rattle.banks.specs.declared.codes.Code.TheVariants.{FixedPriority, RateMonotonic, EarliestDeadline}
+use Rattle.banks.specs.declared.codes.Code.TheVariants.{FixedPriority}
 use Rattle.banks.specs.declared.codes.UnknownCode.{UnknownCode}
-use Rattle.banks.specs.Codes.{number_of, Decodes}
-use Rattle.planfile.specs.Tests.{IsCode}
+use Rattle.banks.specs.Codes.{number_of, IsCode, Decodes}
 use Rattle.planfile.specs.Theorems.{AreCodes}
-
--- one of the codes has the number
-some_code : (n : ℕ) → IsCode n → (c : Code) × (number_of c ≡ n)
-some_code zero is = absurd (omega (arith, is.0))
-some_code (suc zero) is = (FixedPriority, refl)
-some_code (suc (suc zero)) is = (RateMonotonic, refl)
-some_code (suc (suc (suc zero))) is = (EarliestDeadline, refl)
-some_code (suc (suc (suc (suc n)))) is = absurd (omega (arith, is.1))
 
 pub is_decoded : (n : ℕ) (r : Result Code UnknownCode) → IsCode n → Decodes n r → IsOk r
 is_decoded n (Ok c) is d = refl
-is_decoded n (Err e) is d = let q = some_code n is in absurd (d.1 q.0 q.1)
+is_decoded n (Err e) is d = absurd (d.1 is)
 
 pub code_there : (numbers : List ℕ) (i : ℕ) → AreCodes numbers → i < 8 → IsCode (slice_index numbers i)
 code_there numbers i are low = are.each (slice_index numbers i) (Contains-get_or numbers i 0 (omega (arith, low, are.eight)))

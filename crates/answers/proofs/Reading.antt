@@ -1,6 +1,8 @@
 -- What is printed of the first bytes of an input is printed of all of it.
-use Rattle.std.proofs.Common.{◌≡◌, ℕ, ◌+◌, ◌≤◌, List, [], ◌++◌, take, Some, None, Option, IfSome, sym, subst, inl, inr, arith}
-use Rattle.std.specs.Option.{option_map}
+use Rattle.std.proofs.Common.{◌≡◌, ℕ, ◌+◌, ◌≤◌, List, ◌++◌, length, take, Some, None, Option, sym, ap, ◌∙◌, subst, inl, inr, append_assoc, length-append, length-take-le, arith}
+use Rattle.std.specs.Io.KnownBytes.{Keeps, Consumes}
+use Rattle.std.proofs.lemmas.List.{take-append-le}
+use Rattle.std.proofs.Math.Seq.{take-append-add}
 use Rattle.planfile.specs.Theorems.{AreBytes, longest}
 use Rattle.planfile.proofs.FirstBytes.{first_bytes_decide}
 use Rattle.answers.specs.declared.words.Answer.{Answer}
@@ -25,15 +27,30 @@ prints_whole bytes text small p input read =
     let q = subst (λ l. Prints l text) (sym read) p in
     record { answer = q.answer; said = answers_all most_read (omega arith) input (subst AreBytes (sym read) small) q.answer q.said; line = q.line }
 
--- what a reader with a limit gives, by what it has
-limited : (known : Option (List ℕ)) (n : ℕ) (read : List ℕ) → IfSome (option_map (take n) known) (λ xs. read ≡ xs) → IfSome known (λ bytes. read ≡ take n bytes)
-limited None n read is = tt
-limited (Some bytes) n read is = is
+-- ---- what a reader has left, where that is known, after two reads
 
-pub given : {R : Type 0} (remaining : R → Option (List ℕ)) (input inner : R) (n limit : ℕ) (was read : List ℕ)
-    → limit ≡ n → inner ≡ input → was ≡ [] → IfSome (option_map (take limit) (remaining inner)) (λ xs. read ≡ was ++ xs)
-    → IfSome (remaining input) (λ bytes. read ≡ take n bytes)
-given remaining input inner n limit was read at_limit within empty known =
-    let whole = subst (λ r. IfSome (option_map (take limit) (remaining r)) (λ xs. read ≡ was ++ xs)) within known in
-    let cut = subst (λ l. IfSome (option_map (take l) (remaining input)) (λ xs. read ≡ was ++ xs)) at_limit whole in
-    limited (remaining input) n read (subst (λ b. IfSome (option_map (take n) (remaining input)) (λ xs. read ≡ b ++ xs)) empty cut)
+pub keeps_on : (a b c : Option (List ℕ)) → Keeps a b → Keeps b c → Keeps a c
+keeps_on None b c x y = tt
+keeps_on (Some xs) None c x y = absurd x
+keeps_on (Some xs) (Some ys) None x y = absurd y
+keeps_on (Some xs) (Some ys) (Some zs) x y = y ∙ x
+
+pub consumes_on : (a b c : Option (List ℕ)) (bs cs : List ℕ) → Consumes a b bs → Consumes b c cs → Consumes a c (bs ++ cs)
+consumes_on None b c bs cs x y = tt
+consumes_on (Some xs) None c bs cs x y = absurd x
+consumes_on (Some xs) (Some ys) None bs cs x y = absurd y
+consumes_on (Some xs) (Some ys) (Some zs) bs cs x y = x ∙ ap (λ l. bs ++ l) y ∙ sym (append_assoc bs cs zs)
+
+-- ---- one read more into the buffer, behind what came so far
+
+module _ (filled count : ℕ) (buffer new rest : List ℕ) (fits : filled ≤ length buffer) (few : count ≤ length new) where
+  front_long : length (take filled buffer) ≡ filled
+  front_long = length-take-le filled buffer fits
+
+  pub fits_more : filled + count ≤ length (take filled buffer ++ (new ++ rest))
+  fits_more = omega (arith, few, front_long, length-append (take filled buffer) (new ++ rest), length-append new rest)
+
+  pub came_more : take (filled + count) (take filled buffer ++ (new ++ rest)) ≡ take filled buffer ++ take count new
+  came_more =
+      ap (λ n. take (n + count) (take filled buffer ++ (new ++ rest))) (sym front_long)
+      ∙ take-append-add (take filled buffer) (new ++ rest) count ∙ ap (λ l. take filled buffer ++ l) (take-append-le count new rest few)

@@ -21,7 +21,7 @@ use Rattle.answers.specs.declared.words.Word.TheVariants.{Refused}
 use Rattle.answers.specs.declared.words.Answer.{Answer}
 use Rattle.answers.specs.Texts.{word_number}
 use Rattle.answers.specs.Said.{rows, of_verdict, of_fault, IsFileOf, Finds, Faults, Answers}
-use Rattle.answers.specs.Theorems.{Says, WordsAreTrue, AnswersCanBeTrusted}
+use Rattle.answers.specs.Theorems.{AnswerHolds, WordsAreTrue, AnswersCanBeTrusted}
 
 -- ---- codes
 
@@ -76,27 +76,28 @@ module _ (bytes : List ℕ) (small : AreBytes bytes) where
       ((λ e. absurd (not_refused f.verdict (ap (λ x. x.word) (sym f.answer) ∙ e))), λ none. absurd (none f.contents (map number_of f.codes) f.file))
   refused_is_no_file a (inr f) = ((λ e k codes file. no_fault a k codes file f), λ none. ap (λ x. x.word) f.answer)
 
--- what a verdict says
-says : (k : Contents) (codes : List Code) → Sound k → (v : Verdict) → VerdictIs k (coded codes) rows rows v → Says k codes (of_verdict v)
-says k codes can_be (IsKept n c) is = record {
+-- a verdict holds, as an answer
+answer_holds : (k : Contents) (codes : List Code) → Sound k → (v : Verdict) → VerdictIs k (coded codes) rows rows v
+    → AnswerHolds k codes (of_verdict v)
+answer_holds k codes can_be (IsKept n c) is = record {
   kept = λ e. kept_is_never_late k (coded codes) can_be (coded_lawful codes) rows rows n c is;
   missed = λ e. absurd (omega (arith, ap word_number e));
   working = λ e. absurd (omega (arith, ap word_number e));
   marks = λ e. absurd (omega (arith, ap word_number e));
 }
-says k codes can_be (IsMissed t n) is = record {
+answer_holds k codes can_be (IsMissed t n) is = record {
   kept = λ e. absurd (omega (arith, ap word_number e));
   missed = λ e. missed_is_the_earliest k (coded codes) rows rows t n is;
   working = λ e. absurd (omega (arith, ap word_number e));
   marks = λ e. absurd (omega (arith, ap word_number e));
 }
-says k codes can_be (RowsShort WorkingRows t) (at, passes, gives) = record {
+answer_holds k codes can_be (RowsShort WorkingRows t) (at, passes, gives) = record {
   kept = λ e. absurd (omega (arith, ap word_number e));
   missed = λ e. absurd (omega (arith, ap word_number e));
   working = λ e. (rw gives.0 gives.1, λ s l. (passes s (rw (← gives.0) l)).timely);
   marks = λ e. absurd (omega (arith, ap word_number e));
 }
-says k codes can_be (RowsShort MarkRows t) (at, passes, gives) = record {
+answer_holds k codes can_be (RowsShort MarkRows t) (at, passes, gives) = record {
   kept = λ e. absurd (omega (arith, ap word_number e));
   missed = λ e. absurd (omega (arith, ap word_number e));
   working = λ e. absurd (omega (arith, ap word_number e));
@@ -111,7 +112,8 @@ says k codes can_be (RowsShort MarkRows t) (at, passes, gives) = record {
 
 words_are_true : WordsAreTrue
 words_are_true bytes small k codes file a (inl f) =
-    rw f.answer (says k codes (sound bytes small k (map number_of codes) file) f.verdict (verdict_on bytes small a k codes file f))
+    let can_be : Sound k = sound bytes small k (map number_of codes) file in
+    rw f.answer (answer_holds k codes can_be f.verdict (verdict_on bytes small a k codes file f))
 words_are_true bytes small k codes file a (inr f) = absurd (no_fault bytes small a k (map number_of codes) file f)
 
 pub answers_can_be_trusted : AnswersCanBeTrusted

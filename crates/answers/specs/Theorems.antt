@@ -17,8 +17,8 @@ use Rattle.answers.specs.Records.{record_of}
 abbrev pub OneAnswer : Type 0
 OneAnswer = (bytes : List ℕ) → AreBytes bytes → (a b : Answer) → Answers bytes a → Answers bytes b → b ≡ a
 
--- what the answer says of a plan that holds k, under these codes of its cores
-pub record Says (k : Contents) (codes : List Code) (a : Answer) : Type 0 where
+-- what the answer says holds of all runs of a plan that holds k, under these codes of its cores
+pub record AnswerHolds (k : Contents) (codes : List Code) (a : Answer) : Type 0 where
   -- no run is ever late
   pub kept : a.word ≡ Kept → NeverLate k (coded codes)
   -- the earliest time at which any run is late, and the lowest number late then
@@ -28,11 +28,11 @@ pub record Says (k : Contents) (codes : List Code) (a : Answer) : Type 0 where
   -- this is a mark time, the marks up to it are more than the rows, and no run is late up to it
   pub marks : a.word ≡ Marks → ((m : ℕ) × (a.first ≡ mark k m) × Outnumber (Marked k (coded codes) m) rows) × ((e : ℕ) → e ≤ a.first → Timely k (coded codes) e)
 
--- every word says so of each plan whose file the bytes are
+-- whatever is said of the file of a plan holds of that plan
 abbrev pub WordsAreTrue : Type 0
 WordsAreTrue =
     (bytes : List ℕ) → AreBytes bytes → (k : Contents) (codes : List Code) → IsFileOf bytes k codes
-    → (a : Answer) → Answers bytes a → Says k codes a
+    → (a : Answer) → Answers bytes a → AnswerHolds k codes a
 
 -- bytes are refused exactly where they are the file of no plan
 abbrev pub RefusedIsNoFile : Type 0

@@ -1,10 +1,9 @@
 // What is said of the bytes of a file.
 ghost use Rattle.std.specs.Prelude.{◌≡◌, map, MatchResult};
 ghost use Rattle.std.specs.List.{Contains as Has};
-ghost use Rattle.banks.specs.Codes.{number_of, coded};
+ghost use Rattle.banks.specs.Codes.{number_of, IsCode, coded};
 ghost use Rattle.plan.specs.Contents.{contents};
 ghost use Rattle.model.specs.Verdicts.{VerdictIs};
-ghost use Rattle.planfile.specs.Tests.{IsCode};
 ghost use Rattle.planfile.specs.Theorems.{AreCodes};
 ghost use Rattle.answers.specs.Said.{rows, of_verdict, of_fault, Answers};
 ghost use Rattle.answers.specs.Theorems.{AnswersCanBeTrusted};
@@ -21,7 +20,7 @@ use step::states::State;
 // The rows of each table.
 const ROWS: usize = 128;
 
-// What is said of a verdict for so many rows.
+// A verdict as a word and two numbers.
 fn of_verdict(verdict: Verdict) -> Answer
     ensures { result ≡ of_verdict verdict }
 {

@@ -3,7 +3,7 @@ ghost use Rattle.std.specs.Prelude.{◌≡◌, ◌≤◌, length};
 ghost use Rattle.answers.specs.Texts.{word_text, word_number};
 
 /// What is said of a plan's file, in one word.
-#[derive(Clone, Copy, PartialEq, Eq, Debug)]
+#[derive(Clone, Copy, Debug)]
 pub enum Word {
     Kept = 1,
     Missed = 2,
@@ -36,7 +36,7 @@ impl Word {
 }
 
 /// A word, and the two numbers that belong to it.
-#[derive(Clone, Copy, PartialEq, Eq, Debug)]
+#[derive(Clone, Copy, Debug)]
 pub struct Answer {
     pub word: Word,
     pub first: u64,

@@ -1,18 +1,15 @@
 // Reads the file of a plan, and prints the plan's text form.
 #![tactic(auto)]
 
+use answers::lines::read_input;
 use listing::finish;
-use std::io::{self, Read};
+use std::io;
 use std::process::ExitCode;
 use texts::to_text;
 
-// No file is as long: what stands behind these bytes is not read.
-const MOST_BYTES: u64 = 8192;
-
 fn run(rt: &HostRuntime) -> anyhow::Result<()> {
-    let mut bytes = Vec::new(rt.alloc());
-    rt.stdin().take(MOST_BYTES).read_to_end(&mut bytes)?;
-    print!(rt; "{}", to_text(rt.alloc(), &bytes)?)?;
+    let bytes = read_input(rt.reader())?;
+    print!(rt; "{}", to_text(&bytes)?.as_str())?;
     Ok(())
 }
 

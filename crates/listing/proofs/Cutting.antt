@@ -1,5 +1,5 @@
 -- A text cut into lines and words, piece by piece.
-use Rattle.std.proofs.Common.{◌≡◌, ℕ, suc, ◌+◌, ◌<◌, List, [], ◌∷◌, ◌++◌, map, length, get_or, take, drop, Bor, refl, sym, ap, ap₂, ◌∙◌, take-append-drop, drop-cons, arith}
+use Rattle.std.proofs.Common.{◌≡◌, ℕ, suc, ◌+◌, ◌<◌, List, [], ◌∷◌, ◌++◌, map, length, get_or, take, drop, Bor, None, refl, sym, subst, ap, ap₂, ◌∙◌, take-append-drop, drop-cons, arith}
 use Rattle.std.specs.List.{take-map}
 use Rattle.std.proofs.lemmas.List.{length-map}
 use Rattle.std.proofs.lemmas.List.FromFn.{length-enumerate_from, get_or-enumerate_from}
@@ -8,7 +8,7 @@ use Rattle.std.specs.List.{enumerate_from}
 use Rattle.std.specs.Str.{NoCharPasses, EmptyOrStartsWithPassing}
 use Rattle.std.specs.Char.{is_whitespace, is_not_whitespace}
 use Rattle.notation.specs.Lines.{texts}
-use Rattle.std.specs.Iterator.{DrainsIf}
+use Rattle.std.specs.Iterator.{Yields}
 use Rattle.std.specs.Str.Iter.{split_whitespace_rest, split_whitespace_steps}
 use Rattle.std.specs.declared.str.SplitWhitespace.{SplitWhitespace}
 use Rattle.listing.specs.Taking.{StartsWithWord, SplitsInto}
@@ -19,9 +19,9 @@ starts_from : (text word rest : List ℕ) → (gap : List ℕ) × (text ≡ gap 
 starts_from text word rest x = record { gap = x.0; split = x.1; nonempty = x.2; gap_is_blank = x.3; word_is_whole = x.4; rest_starts_blank = x.5 }
 
 -- all that it gives are the words of its text
-pub all_words : (xs : List (Bor (List ℕ))) (s : SplitWhitespace) → DrainsIf split_whitespace_steps (Unit {0}) s xs → SplitsInto (split_whitespace_rest s) (texts xs)
-all_words [] s (t, is, last) = rw is ((last tt).1.1)
-all_words (x ∷ xs) s (t, (u, step, more), last) = (split_whitespace_rest u, starts_from _ _ _ step, all_words xs u (t, more, last))
+pub all_words : (xs : List (Bor (List ℕ))) (s t u : SplitWhitespace) → Yields split_whitespace_steps s xs t → split_whitespace_steps t None u → SplitsInto (split_whitespace_rest s) (texts xs)
+all_words [] s t u is last = subst (λ p. NoCharPasses is_not_whitespace (split_whitespace_rest p)) (sym is) last.1
+all_words (x ∷ xs) s t u (j, step, more) last = (split_whitespace_rest j, starts_from _ _ _ step, all_words xs j t u more last)
 
 -- the lines that were numbered so far
 abbrev pub lines_of : List (ℕ × Bor (List ℕ)) → List (List ℕ)

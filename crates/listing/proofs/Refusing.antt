@@ -1,4 +1,4 @@
--- Lines that make a listing are refused only where memory runs out.
+-- Lines that make a listing are not refused.
 use Rattle.std.proofs.Common.{◌≡◌, ℕ, ◌⊎◌, List, [], ◌∷◌, ◌++◌, sym, refl, ap, ◌∙◌, inl, inr, subst, append_assoc, arith}
 use Rattle.std.proofs.lemmas.List.{same_from_push}
 use Rattle.plan.specs.Contents.{contents}
@@ -8,7 +8,7 @@ use Rattle.notation.specs.declared.Line.TheVariants.{Empty, Handler, Join, CoreC
 use Rattle.notation.specs.Lines.{Says}
 use Rattle.listing.specs.declared.Listing.{Listing}
 use Rattle.listing.specs.declared.Trouble.{Trouble}
-use Rattle.listing.specs.declared.Trouble.TheVariants.{Words, Refused, NoCore, NoCode, Memory}
+use Rattle.listing.specs.declared.Trouble.TheVariants.{Words, Refused, NoCore, NoCode}
 use Rattle.listing.specs.Taking.{before_comment, byte_of, handler_of, Took, Refuses, TookText, SaysRefused, RefusesText, Lists, begun, then}
 use Rattle.listing.specs.Theorems.{GoodLinesAreTaken}
 use Rattle.listing.proofs.OneCut.{one_cut}
@@ -31,13 +31,12 @@ module _ (text : List ℕ) (was next : Listing) (took : TookText text was next) 
       let same = said_one (before_comment text) took.words r.words took.line r.line took.cut r.cut took.says r.says in
       took_not_refused took.line was next e took.took (subst (λ l. Refuses l was e) same r.refused)
 
-  only_memory : (e : Trouble) → RefusesText text was e → e ≡ Memory
-  only_memory (Words problem) r =
-      absurd (r.unsaid took.line (subst (λ ws. Says ws took.line) (one_cut (before_comment text) r.words took.words r.cut took.cut) took.says))
-  only_memory (Refused why) r = absurd (not_refused (Refused why) r)
-  only_memory (NoCore n) r = absurd (not_refused (NoCore n) r)
-  only_memory (NoCode n) r = absurd (not_refused (NoCode n) r)
-  only_memory Memory r = refl
+  pub no_refusal : (e : Trouble) → ¬ RefusesText text was e
+  no_refusal (Words problem) r =
+      (r.unsaid took.line (subst (λ ws. Says ws took.line) (one_cut (before_comment text) r.words took.words r.cut took.cut) took.says))
+  no_refusal (Refused why) r = not_refused (Refused why) r
+  no_refusal (NoCore n) r = not_refused (NoCore n) r
+  no_refusal (NoCode n) r = not_refused (NoCode n) r
 
 -- ---- a line in the midst of others
 
@@ -51,13 +50,13 @@ ended (x ∷ xs) =
     ]
 
 -- the line was taken by what the lines before it make
-record Amidst (before : List (List ℕ)) (line : List ℕ) : Type 0 where
-  was : Listing
-  next : Listing
-  lists : Lists before was
-  took : TookText line was next
+pub record Amidst (before : List (List ℕ)) (line : List ℕ) : Type 0 where
+  pub was : Listing
+  pub next : Listing
+  pub lists : Lists before was
+  pub took : TookText line was next
 
-amidst : {ls : List (List ℕ)} {l : Listing} → Lists ls l → (before : List (List ℕ)) (line : List ℕ) (after : List (List ℕ)) → ls ≡ before ++ line ∷ after → Amidst before line
+pub amidst : {ls : List (List ℕ)} {l : Listing} → Lists ls l → (before : List (List ℕ)) (line : List ℕ) (after : List (List ℕ)) → ls ≡ before ++ line ∷ after → Amidst before line
 amidst (begun x) before line [] e = absurd (not_empty before line (sym e))
 amidst (begun x) before line (y ∷ ys) e = absurd (some before (sym e))
   where
@@ -79,4 +78,4 @@ pub good_lines_are_taken : GoodLinesAreTaken
 good_lines_are_taken ls l lists e un =
     let there = amidst lists un.before un.line un.after un.split in
     let same : there.was ≡ un.was = one_listing un.lists there.lists refl in
-    only_memory un.line un.was there.next (subst (λ w. TookText un.line w there.next) same there.took) e.trouble un.refused
+    no_refusal un.line un.was there.next (subst (λ w. TookText un.line w there.next) same there.took) e.trouble un.refused

@@ -1,5 +1,5 @@
 -- What the lines of the text form make of a plan and the codes of its cores.
-use Rattle.std.specs.Prelude.{◌≡◌, ℕ, ◌+◌, ◌-◌, ◌^◌, ◌<◌, ◌≤◌, ◌≢◌, ◌⊎◌, ◌==◌, List, [], ◌∷◌, ◌++◌, length, Ok, Err, replicate, min, slice_set}
+use Rattle.std.specs.Prelude.{◌≡◌, ℕ, ◌+◌, ◌-◌, ◌^◌, ◌<◌, ◌≤◌, ◌≢◌, ◌⊎◌, ◌==◌, List, [], ◌∷◌, ◌++◌, length, take, Ok, Err, replicate, min, slice_set}
 use Rattle.std.specs.List.{before_first}
 use Rattle.std.specs.Str.{NoCharPasses, EmptyOrStartsWithPassing}
 use Rattle.std.specs.Char.{is_whitespace, is_not_whitespace}
@@ -15,10 +15,12 @@ use Rattle.notation.specs.declared.JoinLine.{JoinLine}
 use Rattle.notation.specs.declared.CoreLine.{CoreLine}
 use Rattle.notation.specs.declared.Line.{Line}
 use Rattle.notation.specs.declared.Line.TheVariants.{Empty, Handler as AHandler, Join, CoreCode}
+use Rattle.notation.specs.declared.Problem.{Problem}
 use Rattle.notation.specs.Lines.{Says}
+use Rattle.notation.specs.Problems.{WrongWith, words_read}
 use Rattle.listing.specs.declared.Listing.{Listing}
 use Rattle.listing.specs.declared.Trouble.{Trouble}
-use Rattle.listing.specs.declared.Trouble.TheVariants.{Words, Refused, NoCore, NoCode, Memory}
+use Rattle.listing.specs.declared.Trouble.TheVariants.{Words, Refused, NoCore, NoCode}
 use Rattle.listing.specs.declared.Unlisted.{Unlisted}
 
 -- a number as a byte: what does not fit becomes 255, which is no core, no code and no handler either
@@ -96,6 +98,11 @@ abbrev pub SplitsInto : List ℕ → List (List ℕ) → Type 0
 SplitsInto text [] = NoCharPasses is_not_whitespace text
 SplitsInto text (word ∷ words) = (rest : List ℕ) × StartsWithWord text word rest × SplitsInto rest words
 
+-- these are the first words of the text, as many as are looked at
+abbrev pub BeginsWith : List ℕ → List (List ℕ) → Type 0
+BeginsWith text front =
+    (words : List (List ℕ)) × SplitsInto text words × (front ≡ take words_read words)
+
 -- what a line says before its comment, which begins with `#`
 abbrev pub before_comment : List ℕ → List ℕ
 before_comment text = before_first (λ b. b == 35) text
@@ -113,11 +120,12 @@ pub data Lists : List (List ℕ) → Listing → Type 0 where
   begun : {l : Listing} → IsNew l → Lists [] l
   then : {lines : List (List ℕ)} {was next : Listing} (line : List ℕ) → Lists lines was → TookText line was next → Lists (lines ++ line ∷ []) next
 
--- the words of the line's text say nothing that a line can say
-pub record SaysNothing (text : List ℕ) : Type 0 where
+-- the words of the line's text say nothing that a line can say, and this is wrong with them
+pub record SaysNothing (text : List ℕ) (problem : Problem) : Type 0 where
   pub words : List (List ℕ)
   pub cut : SplitsInto (before_comment text) words
   pub unsaid : (line : Line) → ¬ Says words line
+  pub wrong : WrongWith words problem
 
 -- what they say is refused for this
 pub record SaysRefused (text : List ℕ) (was : Listing) (e : Trouble) : Type 0 where
@@ -127,13 +135,12 @@ pub record SaysRefused (text : List ℕ) (was : Listing) (e : Trouble) : Type 0 
   pub says : Says words line
   pub refused : Refuses line was e
 
--- why the text of a line is not taken; memory may run out at any
+-- why the text of a line is not taken
 abbrev pub RefusesText : List ℕ → Listing → Trouble → Type 0
-RefusesText text was (Words problem) = SaysNothing text
+RefusesText text was (Words problem) = SaysNothing text problem
 RefusesText text was (Refused why) = SaysRefused text was (Refused why)
 RefusesText text was (NoCore n) = SaysRefused text was (NoCore n)
 RefusesText text was (NoCode n) = SaysRefused text was (NoCode n)
-RefusesText text was Memory = Unit {0}
 
 -- the number of the line behind so many others, from 1 on; no text has so many lines that the count would stop
 abbrev pub line_number : ℕ → ℕ

@@ -1,7 +1,6 @@
 -- What is proved of reading text.
 use Rattle.std.specs.Prelude.{◌≡◌, ℕ, List}
 use Rattle.listing.specs.declared.Listing.{Listing}
-use Rattle.listing.specs.declared.Trouble.TheVariants.{Memory}
 use Rattle.listing.specs.declared.Unlisted.{Unlisted}
 use Rattle.listing.specs.Taking.{Lists, IsUnlisted}
 
@@ -9,6 +8,11 @@ use Rattle.listing.specs.Taking.{Lists, IsUnlisted}
 abbrev pub OneListing : Type 0
 OneListing = (ls : List (List ℕ)) (l m : Listing) → Lists ls l → Lists ls m → m ≡ l
 
--- lines that make a listing are refused only where memory runs out
+-- lines that make a listing are not refused
 abbrev pub GoodLinesAreTaken : Type 0
-GoodLinesAreTaken = (ls : List (List ℕ)) (l : Listing) → Lists ls l → (e : Unlisted) → IsUnlisted ls e → e.trouble ≡ Memory
+GoodLinesAreTaken =
+    (ls : List (List ℕ)) (l : Listing) → Lists ls l → (e : Unlisted) → ¬ IsUnlisted ls e
+
+-- no lines are refused at two of them, or for two reasons
+abbrev pub OneRefusal : Type 0
+OneRefusal = (ls : List (List ℕ)) (e f : Unlisted) → IsUnlisted ls e → IsUnlisted ls f → f ≡ e

@@ -7,22 +7,25 @@ ghost use Rattle.notation.specs.declared.JoinLine.{JoinLine};
 ghost use Rattle.notation.specs.declared.CoreLine.{CoreLine};
 ghost use Rattle.notation.specs.declared.Line.{Line};
 ghost use Rattle.listing.specs.declared.Listing.{Listing};
-ghost use Rattle.listing.specs.declared.Trouble.TheVariants.{Words, Refused, Memory};
+ghost use Rattle.listing.specs.declared.Trouble.TheVariants.{Words, Refused};
 ghost use Rattle.std.specs.Str.Lines.{lines};
 ghost use Rattle.notation.specs.Lines.{texts, Says};
-ghost use Rattle.listing.specs.Taking.{byte_of, before_comment, IsNew, TookHandler, TookJoin, TookCode, Took, RefusesHandler, RefusesJoin, RefusesCode, Refuses, SplitsInto, TookText, Lists, RefusesText, IsUnlisted};
-ghost use Rattle.listing.specs.Theorems.{OneListing, GoodLinesAreTaken};
+ghost use Rattle.listing.specs.Taking.{byte_of, before_comment, IsNew, TookHandler, TookJoin, TookCode, Took, RefusesHandler, RefusesJoin, RefusesCode, Refuses, BeginsWith, TookText, Lists, RefusesText, IsUnlisted};
+ghost use Rattle.listing.specs.Theorems.{OneListing, GoodLinesAreTaken, OneRefusal};
 
+use arrayvec::ArrayVec;
 use banks::codes::Code;
 use notation::{CoreLine, HandlerLine, JoinLine, Line, Problem, parse_words};
 use order::cores::Core;
 use plan::plans::Plan;
-use std::alloc::{AllocError, AllocFailed, Global};
 use std::io;
 use std::process::ExitCode;
 use terms::handlers::Handler;
 use terms::refusals::Refusal;
 use thiserror::Error;
+
+// So many words of a line are looked at: no line has as many.
+const WORDS: usize = 12;
 
 /// A plan, and a code for each core.
 #[derive(Drop)]
@@ -42,8 +45,6 @@ pub enum Trouble {
     NoCore(u16),
     #[error("there is no code {0}: codes are 1, 2 and 3")]
     NoCode(u16),
-    #[error("out of memory")]
-    Memory,
 }
 
 /// The first line of a text that is not taken, counted from 1, and why.
@@ -55,22 +56,6 @@ pub struct Unlisted {
 }
 
 // By hand and not by `#[from]`, whose impls have no contract: clauses say which error a `?` passes on.
-impl From<AllocError> for Trouble {
-    ghost from_gives = { λ _ e. e ≡ Memory };
-
-    fn from(_e: AllocError) -> Trouble {
-        Trouble::Memory
-    }
-}
-
-impl<T: Drop> From<AllocFailed<T>> for Trouble {
-    ghost from_gives = { λ _ e. e ≡ Memory };
-
-    fn from(_e: AllocFailed<T>) -> Trouble {
-        Trouble::Memory
-    }
-}
-
 impl From<Problem> for Trouble {
     ghost from_gives = { λ problem e. e ≡ Words problem };
 
@@ -152,11 +137,11 @@ impl Listing {
     }
 
     // Takes one line of text; what follows a `#` is a comment.
-    fn add_line(&mut self, heap: Global, text: &str) -> Result<(), Trouble>
+    fn add_line(&mut self, text: &str) -> Result<(), Trouble>
         ensures took { MatchResult result (λ _. TookText text.now self.old self.new) (RefusesText text.now self.old) }
         ensures same { OnErr result (self.new ≡ self.old) }
     {
-        let words = words(heap, before_comment(text))?;
+        let words = words(before_comment(text));
         let line = parse_words(&words)?;
         self.take(line)
     }
@@ -168,21 +153,29 @@ fn before_comment(text: &str) -> &str
     text.split_once('#').map_or(text, |(before, _)| before)
 }
 
-fn words(heap: Global, text: &str) -> Result<Vec<&str>, AllocError>
-    ensures { IfOk result (λ v. SplitsInto text.now (texts v.items)) }
+// The first words of the text, as many as are looked at.
+fn words(text: &str) -> ArrayVec<&str, WORDS>
+    ensures { BeginsWith text.now (texts result.items) }
 {
-    text.split_whitespace().collect(heap)
+    let mut words = ArrayVec::new();
+    for word in text.split_whitespace() {
+        if !words.is_full() {
+            words.push(word);
+        }
+    }
+    words
 }
 
 /// Reads a whole list, up to the first line that is not taken.
-pub fn read(heap: Global, text: &str) -> Result<Listing, Unlisted>
+pub fn read(text: &str) -> Result<Listing, Unlisted>
     ensures reads { MatchResult result (Lists (lines text.now)) (IsUnlisted (lines text.now)) }
     ensures one { OneListing }
     ensures taken { GoodLinesAreTaken }
+    ensures one_refusal { OneRefusal }
 {
     let mut list = Listing::new();
     for (at, line) in text.lines().enumerate() {
-        list.add_line(heap, line).map_err(|trouble| Unlisted {
+        list.add_line(line).map_err(|trouble| Unlisted {
             line: at.saturating_add(1),
             trouble,
         })?;

@@ -1,8 +1,10 @@
 -- How the words of a slice are taken apart.
-use Rattle.std.proofs.Common.{◌≡◌, ℕ, ◌-◌, ◌≤◌, List, [], ◌∷◌, length, get_or, take, drop, sym, ap, subst, arith, Bor}
+use Rattle.std.proofs.Common.{◌≡◌, ℕ, ◌-◌, ◌≤◌, List, [], ◌∷◌, length, get_or, take, drop, false, true≢false, Result, Ok, Err, is_ok, MatchResult, sym, ap, subst, arith, Bor}
+use Rattle.std.specs.Result.{IsErrAnd}
+use Rattle.std.specs.Str.Parse.{ParsesUnsigned}
 use Rattle.std.proofs.lemmas.List.{take_rest}
-use Rattle.notation.specs.declared.Key.{Key}
-use Rattle.notation.specs.Lines.{texts, Field, Then}
+use Rattle.notation.specs.declared.Problem.{Problem}
+use Rattle.notation.specs.Lines.{texts, Writes}
 
 -- the word at a place; past the end it is blank
 abbrev pub word : List (Bor (List ℕ)) → ℕ → List ℕ
@@ -17,10 +19,12 @@ split_two [] w h is = absurd (omega arith)
 split_two (a ∷ []) w h is = absurd (omega arith)
 split_two (a ∷ (b ∷ ws)) w h is = rw (← is) (ap (λ l. a.now ∷ (b.now ∷ texts l)) (sym (take_rest (a ∷ (b ∷ ws)) 2)))
 
--- where a field is missing, nothing begins with it
-pub missing : {ws : List (List ℕ)} {key : Key} {Such : List (List ℕ) → Type 0} → ((n : ℕ) (rest : List (List ℕ)) → ¬ Field ws key n rest) → {n : ℕ} → ¬ Then ws key n Such
-missing none (rest, f, _) = none _ rest f
+-- a word whose reading failed is no numeral of 16 bits
+pub misread : (word : List ℕ) {E : Type 0} (r : Result ℕ E) → false ≡ is_ok r → ParsesUnsigned 16 10 word r → (n : ℕ) → ¬ Writes word n
+misread word (Ok x) failed read n w = absurd (true≢false (sym failed))
+misread word (Err e) failed read n w = read (w.digits, w.fits)
 
--- where a field is there and what is left is not such, no other reading is
-pub after : {ws rest : List (List ℕ)} {key : Key} {m n : ℕ} {Such : List (List ℕ) → Type 0} → Field ws key m rest → ¬ Such rest → ¬ Then ws key n Such
-after {ws} {rest} {key} {m} {n} {Such} f none (more, g, such) = let same : more ≡ rest = cc in none (subst Such same such)
+-- a problem that a `?` hands on
+pub handed : {T : Type 0} (r : Result T Problem) (P : T → Type 0) (Q : Problem → Type 0) (p : Problem) → IsErrAnd r (λ q. q ≡ p) → Q p → MatchResult r P Q
+handed (Ok x) P Q p h q = absurd h
+handed (Err y) P Q p h q = subst Q (sym h) q

@@ -1,2 +1,4 @@
 pub mod Fields
 pub mod Starts
+pub mod Telling
+pub mod FirstWords

@@ -1,1 +1,2 @@
 pub mod Lines
+pub mod Problems

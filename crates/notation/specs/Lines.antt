@@ -14,7 +14,7 @@ use Rattle.notation.specs.declared.Line.TheVariants.{Empty, Handler, Join, CoreC
 abbrev pub texts : List (Bor (List ℕ)) → List (List ℕ)
 texts ws = map (λ w. w.now) ws
 
--- the word is a decimal numeral of n, and n has at most 16 bits
+-- the word is a decimal numeral of n, perhaps behind one `+`, and n has at most 16 bits
 pub record Writes (word : List ℕ) (n : ℕ) : Type 0 where
   pub digits : IsNumeral 10 (without_leading_plus word)
   pub fits : digits_value 10 (without_leading_plus word) < 2 ^ 16

@@ -2,12 +2,9 @@
 
 #![tactic(auto)]
 
-ghost use Rattle.std.specs.Prelude.{◌≡◌, ℕ, List, [], MatchResult, ◌≢◌};
-ghost use Rattle.notation.specs.declared.HandlerLine.{HandlerLine};
-ghost use Rattle.notation.specs.declared.JoinLine.{JoinLine};
-ghost use Rattle.notation.specs.declared.CoreLine.{CoreLine};
-ghost use Rattle.notation.specs.declared.Line.{Line};
+ghost use Rattle.std.specs.Prelude.{◌≡◌, [], MatchResult};
 ghost use Rattle.notation.specs.Lines.{texts, key_text, Field, SaysHandler, SaysJoin, SaysCore, Says};
+ghost use Rattle.notation.specs.Problems.{LacksField, GoesOn, FailsHandler, FailsJoin, FailsCore, WrongWith, ProblemsTell, FirstWordsDecide};
 
 use std::fmt;
 use thiserror::Error;
@@ -96,7 +93,8 @@ pub enum Problem {
 
 // The number of the field that the words begin with, and the words after it.
 fn field<'a, 'b>(words: &'a [&'b str], key: Key) -> Result<(u16, &'a [&'b str]), Problem>
-    ensures { MatchResult result (λ x. Field (texts words.now) key x.0 (texts x.1.now)) (λ _. (n : ℕ) (rest : List (List ℕ)) → ¬ Field (texts words.now) key n rest) }
+    ensures { let ws = texts words.now in
+        MatchResult result (λ x. Field ws key x.0 (texts x.1.now)) (LacksField ws key) }
 {
     match words {
         [name, number, rest @ ..] if *name == key.text() => {
@@ -109,7 +107,7 @@ fn field<'a, 'b>(words: &'a [&'b str], key: Key) -> Result<(u16, &'a [&'b str]),
 
 // Refuses words that stand after the last field.
 fn end(words: &[&str]) -> Result<(), Problem>
-    ensures { MatchResult result (λ _. texts words.now ≡ []) (λ _. texts words.now ≢ []) }
+    ensures { MatchResult result (λ _. texts words.now ≡ []) (GoesOn (texts words.now)) }
 {
     match words {
         [] => Ok(()),
@@ -119,7 +117,7 @@ fn end(words: &[&str]) -> Result<(), Problem>
 
 // The line that goes on after `handler`.
 fn handler(words: &[&str]) -> Result<HandlerLine, Problem>
-    ensures { MatchResult result (λ h. SaysHandler (texts words.now) h) (λ _. (h : HandlerLine) → ¬ SaysHandler (texts words.now) h) }
+    ensures { MatchResult result (SaysHandler (texts words.now)) (FailsHandler (texts words.now)) }
 {
     let (core, words) = field(words, Key::Core)?;
     let (period, words) = field(words, Key::Period)?;
@@ -138,7 +136,7 @@ fn handler(words: &[&str]) -> Result<HandlerLine, Problem>
 
 // The line that goes on after `join`.
 fn join(words: &[&str]) -> Result<JoinLine, Problem>
-    ensures { MatchResult result (λ j. SaysJoin (texts words.now) j) (λ _. (j : JoinLine) → ¬ SaysJoin (texts words.now) j) }
+    ensures { MatchResult result (SaysJoin (texts words.now)) (FailsJoin (texts words.now)) }
 {
     let (first, words) = field(words, Key::First)?;
     let (second, words) = field(words, Key::Second)?;
@@ -148,7 +146,7 @@ fn join(words: &[&str]) -> Result<JoinLine, Problem>
 
 // The line that gives a core its code.
 fn core(words: &[&str]) -> Result<CoreLine, Problem>
-    ensures { MatchResult result (λ k. SaysCore (texts words.now) k) (λ _. (k : CoreLine) → ¬ SaysCore (texts words.now) k) }
+    ensures { MatchResult result (SaysCore (texts words.now)) (FailsCore (texts words.now)) }
 {
     let (core, words) = field(words, Key::Core)?;
     let (code, words) = field(words, Key::Code)?;
@@ -156,9 +154,13 @@ fn core(words: &[&str]) -> Result<CoreLine, Problem>
     Ok(CoreLine { core, code })
 }
 
-/// What the words of a line say; a line with no word says nothing.
+/// What the words of a line say, or what is wrong with them. A line with no word says nothing, and
+/// the first twelve words decide: no line has as many.
+#[tactic(auto, using(crate::proofs::Telling::problems_tell, crate::proofs::FirstWords::first_words_decide))]
 pub fn parse_words(words: &[&str]) -> Result<Line, Problem>
-    ensures { MatchResult result (λ line. Says (texts words.now) line) (λ _. (line : Line) → ¬ Says (texts words.now) line) }
+    ensures parses { MatchResult result (Says (texts words.now)) (WrongWith (texts words.now)) }
+    ensures tell { ProblemsTell }
+    ensures first_words { FirstWordsDecide }
 {
     match words {
         [] => Ok(Line::Empty),

@@ -8,7 +8,7 @@ use texts::to_file;
 
 fn run(rt: &HostRuntime) -> anyhow::Result<()> {
     let text = io::read_to_string(rt.alloc(), rt.stdin())?;
-    let file = to_file(rt.alloc(), &text)?;
+    let file = to_file(&text)?;
     rt.stdout().write_all(&file)?;
     Ok(())
 }

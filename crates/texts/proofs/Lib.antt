@@ -7,4 +7,5 @@ pub mod Sayings
 pub mod Printed
 pub mod Listed
 pub mod ListedWhole
+pub mod LongestText
 pub mod Back

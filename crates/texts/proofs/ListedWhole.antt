@@ -1,18 +1,16 @@
 -- The lines of a printed text make the listing that was printed.
-use Rattle.std.proofs.Common.{◌≡◌, ℕ, zero, suc, ◌+◌, ◌-◌, ◌^◌, ◌<◌, List, [], ◌∷◌, ◌++◌, length, get_or, take, drop, set, replicate, map, sym, refl, ap, ap₂, ◌∙◌, inl, inr, subst, append_assoc, append-nil, length-take-le, drop-cons, arith}
+use Rattle.std.proofs.Common.{◌≡◌, ℕ, zero, suc, ◌+◌, ◌-◌, ◌^◌, ◌<◌, List, [], ◌∷◌, ◌++◌, length, get_or, take, drop, set, replicate, map, sym, refl, ap, ap₂, ◌∙◌, subst, append_assoc, append-nil, length-take-le, drop-cons, arith}
 use Rattle.std.specs.Prelude.{slice_index, slice_set}
 use Rattle.std.specs.List.{flat_map, range_with_len, Contains as Has}
 use Rattle.std.specs.Str.Lines.{lines}
-use Rattle.std.proofs.lemmas.Bool.{cases_eq}
 use Rattle.std.proofs.lemmas.List.{take_more, take_all, set_at, get_or-map, length-map}
 use Rattle.gather.proofs.Counting.{has_here, has_there}
 use Rattle.plan.specs.Contents.{Contents, contents, empty, Sound}
 use Rattle.banks.specs.declared.codes.Code.{Code}
 use Rattle.banks.specs.declared.codes.Code.TheVariants.{FixedPriority, RateMonotonic, EarliestDeadline}
-use Rattle.banks.specs.Codes.{number_of}
+use Rattle.banks.specs.Codes.{number_of, IsCode}
 use Rattle.listing.specs.declared.Listing.{Listing}
 use Rattle.listing.specs.Taking.{Lists, begun}
-use Rattle.planfile.specs.Tests.{IsCode}
 use Rattle.planfile.proofs.FiledHandlers.{alone, handlers_come}
 use Rattle.planfile.proofs.FiledTurns.{TakesJoins}
 use Rattle.planfile.proofs.FiledJoins.{joins_come}
@@ -117,15 +115,8 @@ codes_of : (numbers : List ℕ) → ((c : ℕ) → Has numbers c → IsCode c) �
 codes_of [] each = ([], refl)
 codes_of (n ∷ ns) each =
     let more = codes_of ns (λ c m. each c (has_there n c ns m)) in
-    let code = code_of n (each n (has_here n ns)) in
+    let code = each n (has_here n ns) in
     (code.0 ∷ more.0, ap₂ (λ a l. a ∷ l) code.1 more.1)
-  where
-    code_of : (n : ℕ) → IsCode n → (code : Code) × (number_of code ≡ n)
-    code_of n is =
-        elim (cases_eq n 1) [
-          | inl e ↦ (FixedPriority, sym e)
-          | inr one ↦ (elim (cases_eq n 2) [ inl e ↦ (RateMonotonic, sym e) | inr two ↦ (EarliestDeadline, omega (arith, one, two, is.0, is.1)) ])
-        ]
 
 pub text_is_read_back : TextIsReadBack
 text_is_read_back k numbers sound fit are =

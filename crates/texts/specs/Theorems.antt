@@ -46,3 +46,7 @@ pub record IsPrinted (text : List ℕ) (k : Contents) (codes : List ℕ) : Type 
 -- the file of what the lines of the text make is these bytes
 abbrev pub ComesBack : List ℕ → List ℕ → Type 0
 ComesBack bytes text = (file : List ℕ) → IsFileOf (lines text) file → file ≡ bytes
+
+-- no text of a plan is longer
+abbrev pub longest_text : ℕ
+longest_text = 52976

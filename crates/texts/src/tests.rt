@@ -1,5 +1,6 @@
 // A plan as text and as a file, and what is said of text and of bytes that are neither.
 use super::*;
+use std::alloc::{AllocError, Global};
 use std::test::Fail;
 
 // Written by hand, as somebody writes it.
@@ -44,11 +45,39 @@ const FILE: [u8; 68] = [
 
 #[test]
 fn a_plan_is_turned_into_its_file_and_back(rt: HostRuntime) -> Result<(), Fail> {
-    let heap = rt.alloc();
-    assert_eq!(rt; to_file(heap, WRITTEN)?.as_slice(), FILE.as_slice());
-    let text = to_text(heap, &FILE)?;
+    assert_eq!(rt; to_file(WRITTEN)?.as_slice(), FILE.as_slice());
+    let text = to_text(&FILE)?;
     assert_eq!(rt; text.as_str(), PRINTED);
-    assert_eq!(rt; to_file(heap, &text)?.as_slice(), FILE.as_slice());
+    assert_eq!(rt; to_file(text.as_str())?.as_slice(), FILE.as_slice());
+    Ok(())
+}
+
+// As many handlers as there can be, with the widest numbers, and each joined before all behind it.
+fn widest(heap: Global) -> Result<String, AllocError> {
+    let mut text = String::new(heap);
+    for core in 1..=8 {
+        writeln!(text, "core {core} code 3")?;
+    }
+    for _ in 0..64 {
+        let line = "handler core 8 period 65535 offset 65535 shortest 65535 longest 65535\n";
+        text.push_str(line)?;
+    }
+    for first in 1..=64 {
+        for second in 1..=64 {
+            if first < second {
+                writeln!(text, "join first {first} second {second}")?;
+            }
+        }
+    }
+    Ok(text)
+}
+
+#[test]
+fn the_longest_file_is_made_and_comes_back(rt: HostRuntime) -> Result<(), Fail> {
+    let text = widest(rt.alloc())?;
+    let file = to_file(text.as_str())?;
+    assert_eq!(rt; file.len(), 6_713);
+    assert_eq!(rt; to_text(&file)?.as_str(), text.as_str());
     Ok(())
 }
 
@@ -72,7 +101,7 @@ const DAMAGED: [(usize, &str); 3] = [
 fn bytes_that_are_no_file_are_told(rt: HostRuntime) -> Result<(), Fail> {
     let heap = rt.alloc();
     for (length, message) in DAMAGED {
-        match to_text(heap, &FILE[..length.min(FILE.len())]) {
+        match to_text(&FILE[..length.min(FILE.len())]) {
             Ok(_) => return Err(Fail::new("this is no whole file")),
             Err(unread) => assert_eq!(rt; unread.to_string(heap)?.as_str(), message),
         }
@@ -83,7 +112,7 @@ fn bytes_that_are_no_file_are_told(rt: HostRuntime) -> Result<(), Fail> {
 #[test]
 fn a_refusal_of_the_plan_is_told(rt: HostRuntime) -> Result<(), Fail> {
     let heap = rt.alloc();
-    match to_text(heap, &[1, 0, 0, 0, 0, 0, 1, 0, 1, 1]) {
+    match to_text(&[1, 0, 0, 0, 0, 0, 1, 0, 1, 1]) {
         Ok(_) => Err(Fail::new("the period is 0")),
         Err(unread) => {
             assert_eq!(rt;
@@ -98,10 +127,7 @@ fn a_refusal_of_the_plan_is_told(rt: HostRuntime) -> Result<(), Fail> {
 #[test]
 fn a_bad_line_is_told(rt: HostRuntime) -> Result<(), Fail> {
     let heap = rt.alloc();
-    match to_file(
-        heap,
-        "core 1 code 2\nhandler core 1 period 0 offset 0 shortest 1 longest 1\n",
-    ) {
+    match to_file("core 1 code 2\nhandler core 1 period 0 offset 0 shortest 1 longest 1\n") {
         Ok(_) => Err(Fail::new("the period is 0")),
         Err(trouble) => {
             assert_eq!(rt;

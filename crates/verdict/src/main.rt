@@ -5,6 +5,6 @@ use answers::lines::{line, read_input};
 use std::io;
 
 fn main(rt: HostRuntime) -> io::Result<()> {
-    let bytes = read_input(rt.alloc(), rt.reader())?;
+    let bytes = read_input(rt.reader())?;
     print!(rt; "{}", line(&bytes).as_str())
 }

@@ -7,6 +7,7 @@ use Rattle.gather.proofs.Ending.{faulted}
 use Rattle.listing.specs.Theorems.{OneListing}
 use Rattle.listing.proofs.OneListing.{one_listing}
 use Rattle.listing.proofs.Refusing.{good_lines_are_taken}
+use Rattle.listing.proofs.OneRefusal.{one_refusal}
 use Rattle.std.proofs.lemmas.Result.{err_from_is_err_and}
 use Rattle.listing.specs.Taking.{begun, then, Lists, TookText, line_number}
 use Rattle.listing.proofs.Cutting.{lines_of, lines_are, turn_is}
@@ -35,6 +36,12 @@ returns-clause-one c = one
 
 pub returns-clause-taken : goal.returns-clause-taken
 returns-clause-taken c = good_lines_are_taken
+
+pub returns-clause-one_refusal : goal.returns-clause-one_refusal
+returns-clause-one_refusal c = one_refusal
+
+pub returns-in_err-map_err-clause-one_refusal : goal.returns-in_err-map_err-clause-one_refusal
+returns-in_err-map_err-clause-one_refusal c = one_refusal
 
 pub returns-in_err-map_err-clause-one : goal.returns-in_err-map_err-clause-one
 returns-in_err-map_err-clause-one c = one

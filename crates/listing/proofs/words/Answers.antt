@@ -1,4 +1,5 @@
-use Rattle.std.proofs.lemmas.Result.{IfOk-weaker}
+use Rattle.std.proofs.Common.{◌≡◌, subst, rules}
+use Rattle.std.specs.Str.Iter.{split_whitespace_rest, split_whitespace_steps}
 use Rattle.notation.specs.Lines.{texts}
 use Rattle.listing.specs.Taking.{SplitsInto}
 use Rattle.listing.proofs.Cutting.{all_words}
@@ -6,5 +7,7 @@ use Rattle.listing.proofs.words.Goals as goal
 
 pub returns : goal.returns
 returns c =
-    IfOk-weaker c.collect.result _ (λ v. SplitsInto c.args.text.now (texts v.items))
-    (λ v h. rw (h.2.0, ← c.split_whitespace.ensures.rest) (all_words h.0 _ h.1)) c.collect.ensures.ran
+    let ended = subst (λ o. split_whitespace_steps c.loop-word.word-iterator o c.next.new.self) c.in-None.is c.next.ensures.steps in
+    let all = all_words c.loop-word.yielded c.into_iter-word-iterator.result c.loop-word.word-iterator c.next.new.self c.loop-word.yielded_by ended in
+    let whole : split_whitespace_rest c.into_iter-word-iterator.result ≡ c.args.text.now = search rules in
+    (texts c.loop-word.yielded, subst (λ t. SplitsInto t (texts c.loop-word.yielded)) whole all, c.loop-word.invariant)

@@ -1,18 +1,60 @@
-use Rattle.std.proofs.lemmas.Result.{MatchResult-from_err}
-use Rattle.notation.proofs.Fields.{missing, after}
+use Rattle.std.proofs.Common.{inl, inr}
+use Rattle.notation.proofs.Fields.{handed}
 use Rattle.notation.proofs.handler.Goals as goal
 
-pub returns-in_err-core : goal.returns-in_err-core
-returns-in_err-core c = MatchResult-from_err _ _ _ c.from_residual.ensures.0 (λ _ _. missing c.in_err-core.ensures)
-
-pub returns-in_err-period : goal.returns-in_err-period
-returns-in_err-period c = MatchResult-from_err _ _ _ c.from_residual-in_err-period.ensures.0 (λ _ _. after c.in_ok-core.ensures (missing c.in_err-period.ensures))
-
-pub returns-in_err-offset : goal.returns-in_err-offset
-returns-in_err-offset c = MatchResult-from_err _ _ _ c.from_residual-in_err-offset.ensures.0 (λ _ _. after c.in_ok-core.ensures (after c.in_ok-period.ensures (missing c.in_err-offset.ensures)))
-
 pub returns-in_err-shortest : goal.returns-in_err-shortest
-returns-in_err-shortest c = MatchResult-from_err _ _ _ c.from_residual-in_err-shortest.ensures.0 (λ _ _. after c.in_ok-core.ensures (after c.in_ok-period.ensures (after c.in_ok-offset.ensures (missing c.in_err-shortest.ensures))))
+returns-in_err-shortest c =
+    handed _ _ _ c.in_err-shortest.field-0.0 c.from_residual-in_err-shortest.ensures.1
+    (inr (_, (_, c.in_ok-core.ensures, inr (_, (_, c.in_ok-period.ensures, inr (_, (_, c.in_ok-offset.ensures, inl c.in_err-shortest.ensures)))))))
 
 pub returns-in_err-longest : goal.returns-in_err-longest
-returns-in_err-longest c = MatchResult-from_err _ _ _ c.from_residual-in_err-longest.ensures.0 (λ _ _. after c.in_ok-core.ensures (after c.in_ok-period.ensures (after c.in_ok-offset.ensures (after c.in_ok-shortest.ensures (missing c.in_err-longest.ensures)))))
+returns-in_err-longest c =
+    handed _ _ _ c.in_err-longest.field-0.0 c.from_residual-in_err-longest.ensures.1
+    (inr (
+      _,
+      (
+        _,
+        c.in_ok-core.ensures,
+        inr (
+          _,
+          (
+            _,
+            c.in_ok-period.ensures,
+            inr (
+              _,
+              (
+                _,
+                c.in_ok-offset.ensures,
+                inr (_, (_, c.in_ok-shortest.ensures, inl c.in_err-longest.ensures)),
+              ),
+            ),
+          ),
+        ),
+      ),
+    ))
+
+pub returns-in_err-end : goal.returns-in_err-end
+returns-in_err-end c =
+    handed _ _ _ c.in_err-end.field-0.0 c.from_residual-in_err-end.ensures.1
+    (inr (
+      _,
+      (
+        _,
+        c.in_ok-core.ensures,
+        inr (
+          _,
+          (
+            _,
+            c.in_ok-period.ensures,
+            inr (
+              _,
+              (
+                _,
+                c.in_ok-offset.ensures,
+                inr (_, (_, c.in_ok-shortest.ensures, inr (_, (_, c.in_ok-longest.ensures, c.in_err-end.ensures)))),
+              ),
+            ),
+          ),
+        ),
+      ),
+    ))

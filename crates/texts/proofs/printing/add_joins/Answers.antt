@@ -1,9 +1,12 @@
-use Rattle.std.proofs.Common.{arith}
-use Rattle.texts.proofs.Adding.{added_next, added_last}
+use Rattle.std.proofs.Common.{refl, arith}
+use Rattle.texts.proofs.Adding.{room_here, added_next, added_last}
 use Rattle.texts.proofs.printing.add_joins.Goals as goal
 
-pub loop-first-preserved : goal.loop-first-preserved
-loop-first-preserved c = added_next _ _ _ _ _ _ c.loop-first.invariant c.in_ok-add_joins_from.ensures (omega (arith, c.count-first-end.ensures))
+pub add_joins_from-requires : goal.add_joins_from-requires
+add_joins_from-requires c = room_here _ _ _ _ _ refl c.requires _ _ c.loop-first.invariant (omega (arith, c.count-first-end.ensures))
 
-pub returns-in_ok-add_joins_from : goal.returns-in_ok-add_joins_from
-returns-in_ok-add_joins_from c = added_last _ _ _ _ _ _ c.loop-first.invariant c.in_ok-add_joins_from.ensures (omega (arith, c.count-first-end.ensures))
+pub loop-first-preserved : goal.loop-first-preserved
+loop-first-preserved c = added_next _ _ _ _ _ _ c.loop-first.invariant c.add_joins_from.ensures (omega (arith, c.count-first-end.ensures))
+
+pub returns-2 : goal.returns-2
+returns-2 c = added_last _ _ _ _ _ _ c.loop-first.invariant c.add_joins_from.ensures (omega (arith, c.count-first-end.ensures))
