@@ -1,5 +1,5 @@
 // Checks each of the plans with known verdicts, and gives an account: the plan, how the verdict comes, the verdict, and
-// what it means.
+// what it means. Then makes a mixture of calls, and tells what each answers.
 #![tactic(auto)]
 
 ghost use Rattle.std.specs.Prelude.{◌≡◌, true, None, IfOk};
@@ -7,10 +7,12 @@ ghost use Rattle.samples.specs.Plans.{Known};
 ghost use Rattle.account.specs.Accounts.{AllKnown};
 
 mod checking;
+mod mixing;
 mod moments;
 mod wording;
 
 use crate::checking::Checked;
+use crate::mixing::show_mixture;
 use crate::moments::show_times;
 use crate::wording::{Meaning, Said, show_marks, show_plan, show_sizes};
 use anyhow::bail;
@@ -62,6 +64,7 @@ fn run(rt: &HostRuntime) -> anyhow::Result<()> {
         "samples {}, and each verdict is the one known",
         samples.len()
     )?;
+    show_mixture(rt)?;
     Ok(())
 }
 

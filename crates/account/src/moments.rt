@@ -1,4 +1,8 @@
 // What a check sees at each time up to that of its verdict.
+ghost use Rattle.std.specs.Prelude.{◌≡◌};
+ghost use Rattle.plan.specs.Contents.{contents};
+ghost use Rattle.account.specs.Tellings.{IsMarkTime, last_time, Marks, Tells};
+
 use crate::checking::{Checked, Tables};
 use crate::wording::Many;
 use banks::codes::code_bank;
@@ -20,6 +24,7 @@ enum Event {
     NoRoomForMarks,
 }
 
+// What is told of a time: how many states there are, which mark time it is, and what happens.
 #[derive(Drop)]
 struct Moment {
     time: u64,
@@ -28,6 +33,7 @@ struct Moment {
     event: Event,
 }
 
+// Only prints.
 impl fmt::Display for Moment {
     fn fmt<W: fmt::Write>(&self, f: &mut fmt::Formatter<W>) -> fmt::Result {
         write!(f, "at {}", self.time)?;
@@ -46,18 +52,22 @@ impl fmt::Display for Moment {
 }
 
 // Which mark time this is: so many rounds after the settling time.
-fn mark_time(plan: &Plan, time: u64) -> Option<u64> {
+fn mark_time(plan: &Plan, time: u64) -> Option<u64>
+    ensures { IsMarkTime (contents plan.now) time result }
+{
     let (settling, round) = (u64::from(plan.settling()), u64::from(plan.round()));
     let since = time.checked_sub(settling)?;
     if since.is_multiple_of(round) {
-        since.checked_div(round)
+        Some(since / round)
     } else {
         None
     }
 }
 
 // The time that gives the verdict.
-fn last_time(plan: &Plan, verdict: Verdict) -> u64 {
+fn last_time(plan: &Plan, verdict: Verdict) -> u64
+    ensures { result ≡ last_time (contents plan.now) verdict }
+{
     match verdict {
         Verdict::Kept { rounds, .. } => u64::from(plan.round())
             .saturating_mul(rounds)
@@ -67,18 +77,30 @@ fn last_time(plan: &Plan, verdict: Verdict) -> u64 {
 }
 
 // Puts the states of a mark time among the marks.
-fn mark(states: &[State], marks: &mut Lent<State>) -> Event {
+fn mark<M: Table<Item = State>>(states: &[State], marks: &mut M) -> Event
+    ensures { Marks states.now (M.members marks.old) (M.room marks.old)
+        result (M.members marks.new) }
+{
     let before = marks.rows().len();
     for state in states {
-        if marks.insert(state) == Inserted::Full {
-            return Event::NoRoomForMarks;
+        match marks.insert(state) {
+            Inserted::New | Inserted::There => {}
+            Inserted::Full => return Event::NoRoomForMarks,
         }
     }
     Event::NewMarks(marks.rows().len().saturating_sub(before))
 }
 
 impl Moment {
-    fn of(plan: &Plan, time: u64, front: &Lent<State>, marks: &mut Lent<State>) -> Moment {
+    fn of<W: Table<Item = State>, M: Table<Item = State>>(
+        plan: &Plan,
+        time: u64,
+        front: &W,
+        marks: &mut M,
+    ) -> Moment
+        ensures { Tells (contents plan.now) time (W.members front.now)
+            (M.members marks.old) (M.room marks.old) result (M.members marks.new) }
+    {
         let mark_time = mark_time(plan, time);
         let event = match first_late(plan, time, front) {
             Some(number) => Event::Late(number),
@@ -94,7 +116,7 @@ impl Moment {
     }
 }
 
-// Prints a line for each time, up to the one that gives the verdict.
+// Prints a line for each time, up to the one that gives the verdict. It only prints: no contract.
 pub(crate) fn show_times(
     rt: &HostRuntime,
     sample: &Sample,

@@ -1,4 +1,9 @@
-// Plans and verdicts in words.
+// Plans and verdicts in words. What only prints, or has words for a value, has no contract.
+ghost use Rattle.std.specs.Prelude.{◌≡◌, ℕ, Decides};
+ghost use Rattle.banks.specs.declared.codes.Code.TheVariants.{FixedPriority};
+ghost use Rattle.plan.specs.Contents.{contents};
+ghost use Rattle.account.specs.Tellings.{IsOn};
+
 use banks::codes::Code;
 use model::verdicts::{Rows, Verdict};
 use order::cores::Core;
@@ -92,7 +97,9 @@ fn name(code: Code) -> &'static str {
     }
 }
 
-fn is_fixed(code: Code) -> bool {
+fn is_fixed(code: Code) -> bool
+    ensures { Decides result (code ≡ FixedPriority) }
+{
     matches!(code, Code::FixedPriority)
 }
 
@@ -110,10 +117,19 @@ impl fmt::Display for Times {
     }
 }
 
-fn show_handler(rt: &HostRuntime, number: u8, handler: Handler) -> io::Result<()> {
-    let times = Times(handler.shortest, handler.longest);
-    let (core, period, offset) = (handler.core, handler.period, handler.offset);
-    println!(rt; "handler {number}: core {core}, works {times}, period {period}, offset {offset}")
+// The numbers of a handler.
+#[derive(Clone, Copy)]
+pub(crate) struct Numbers(pub(crate) Handler);
+
+impl fmt::Display for Numbers {
+    fn fmt<W: fmt::Write>(&self, f: &mut fmt::Formatter<W>) -> fmt::Result {
+        let times = Times(self.0.shortest, self.0.longest);
+        let (core, period, offset) = (self.0.core, self.0.period, self.0.offset);
+        write!(
+            f,
+            "core {core}, works {times}, period {period}, offset {offset}"
+        )
+    }
 }
 
 fn show_handlers(rt: &HostRuntime, plan: &Plan) -> io::Result<()> {
@@ -122,7 +138,7 @@ fn show_handlers(rt: &HostRuntime, plan: &Plan) -> io::Result<()> {
     }
     for number in 1..=plan.count() {
         if let Some(handler) = plan.handler(number) {
-            show_handler(rt, number, handler)?;
+            println!(rt; "handler {number}: {}", Numbers(handler))?;
         }
     }
     Ok(())
@@ -142,11 +158,19 @@ fn show_all_joins(rt: &HostRuntime, plan: &Plan) -> io::Result<()> {
     Ok(())
 }
 
-// Whether a handler is on the core.
-fn in_use(plan: &Plan, core: Core) -> bool {
-    (1..=plan.count()).any(|number| plan
-        .handler(number)
-        .is_some_and(|handler| handler.core == core.number()))
+// Whether the handler of this number is on the core.
+fn is_on(plan: &Plan, number: u8, core: Core) -> bool
+    ensures { Decides result (IsOn (contents plan.now) core number) }
+{
+    plan.handler(number)
+        .is_some_and(|handler| handler.core == core.number())
+}
+
+// Whether some handler is on the core.
+fn in_use(plan: &Plan, core: Core) -> bool
+    ensures { Decides result ((n : ℕ) × IsOn (contents plan.now) core n) }
+{
+    (0..plan.count()).any(|place| is_on(plan, place + 1, core))
 }
 
 fn show_codes(rt: &HostRuntime, plan: &Plan, codes: &[Code; 8]) -> io::Result<()> {

@@ -1,12 +1,12 @@
 -- A test of the calls of a sample: a plan can hold what they make.
-use Rattle.std.proofs.Common.{◌≡◌, ℕ, suc, pred, ◌<◌, ◌≤◌, Bool, true, ◌&&◌, ◌||◌, ◌⊎◌, List, [], ◌∷◌, fold, sym, ◌∙◌, ap₂, inl, inr, true≢false, arith}
+use Rattle.std.proofs.Common.{◌≡◌, ℕ, suc, pred, ◌^◌, ◌<◌, ◌≤◌, Bool, true, ◌&&◌, ◌||◌, ◌⊎◌, List, [], ◌∷◌, fold, sym, ◌∙◌, ap₂, inl, inr, true≢false, arith}
 use Rattle.std.specs.Prelude.{Some, None, Option, nat_lt, nat_le, ◌==◌}
 use Rattle.std.specs.List.{list_all}
 use Rattle.std.proofs.lemmas.Bool.{eqb-true, and_parts, or_cases}
 use Rattle.terms.specs.declared.handlers.Handler.{Handler}
 use Rattle.plan.specs.Contents.{Contents, Sound, count, at, round, empty}
 use Rattle.plan.specs.Joins.{Chain, one, more}
-use Rattle.plan.specs.Rows.{IsInRange, longest_round}
+use Rattle.plan.specs.Rows.{FitsWords, IsInRange, longest_round}
 use Rattle.samples.specs.declared.Call.{Call}
 use Rattle.samples.specs.declared.Call.TheVariants.{Register, Join}
 use Rattle.samples.specs.declared.Sample.{Sample}
@@ -52,8 +52,16 @@ may_join p a b =
     nat_lt a b
     && (nat_le b (count p) && ((at p (pred a)).period == (at p (pred b)).period && (at p (pred a)).offset == (at p (pred b)).offset))
 
+abbrev pub fits : Handler → Bool
+fits h =
+    nat_lt h.period (2 ^ 16)
+    && (nat_lt h.offset (2 ^ 16) && (nat_lt h.shortest (2 ^ 16) && nat_lt h.longest (2 ^ 16)))
+
 abbrev pub ranged : Handler → Bool
-ranged h = nat_le 1 h.period && (nat_le 1 h.shortest && (nat_le h.shortest h.longest && (nat_le 1 h.core && nat_le h.core 8)))
+ranged h =
+    nat_le 1 h.period
+    && (nat_le 1 h.shortest
+    && (nat_le h.shortest h.longest && (nat_le 1 h.core && (nat_le h.core 8 && fits h))))
 
 abbrev pub in_range : Contents → ℕ → Bool
 in_range p i = ranged (at p i)
@@ -71,13 +79,21 @@ may_join_so p a b e =
     (and_decides _ _ (le_decides b (count p))
     (and_decides _ _ (eq_decides (at p (pred a)).period (at p (pred b)).period) (eq_decides (at p (pred a)).offset (at p (pred b)).offset)))).0 e
 
+fits_so : (h : Handler) → fits h ≡ true → FitsWords h
+fits_so h e =
+    let r = (and_decides _ _ (lt_decides h.period (2 ^ 16))
+    (and_decides _ _ (lt_decides h.offset (2 ^ 16))
+    (and_decides _ _ (lt_decides h.shortest (2 ^ 16)) (lt_decides h.longest (2 ^ 16))))).0 e in
+    (r.0, r.1.0, r.1.1.0, r.1.1.1)
+
 pub ranged_so : (h : Handler) → ranged h ≡ true → IsInRange h
 ranged_so h e =
     let r = (and_decides _ _ (le_decides 1 h.period)
     (and_decides _ _ (le_decides 1 h.shortest)
     (and_decides _ _ (le_decides h.shortest h.longest)
-    (and_decides _ _ (le_decides 1 h.core) (le_decides h.core 8))))).0 e in
-    (r.0, r.1.0, r.1.1.0, r.1.1.1.0, r.1.1.1.1)
+    (and_decides _ _ (le_decides 1 h.core)
+    (and_decides _ _ (le_decides h.core 8) (true_decides (fits h))))))).0 e in
+    (r.0, r.1.0, r.1.1.0, r.1.1.1.0, r.1.1.1.1.0, fits_so h r.1.1.1.1.1)
 
 module _ (x : Sample) (test : can_be x ≡ true) where
   record Parts : Type 0 where

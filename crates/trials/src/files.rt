@@ -1,8 +1,10 @@
 // The file of a small plan, whole and damaged, and the longest file.
 use plan::plans::Plan;
 use planfile::faults::{Cause, Fault, Flaw};
+use planfile::reading::Reader;
 use planfile::reading::whole::read;
 use planfile::writing::write;
+use std::alloc::Global;
 use std::process::Abort;
 use std::test::Fail;
 use terms::handlers::Handler;
@@ -86,6 +88,19 @@ fn misplaced() -> [Damage; 8] {
     ]
 }
 
+// Of two tests that a record fails the first is told: an unknown kind before a falling one, and the end of the bytes
+// before a core out of turn.
+fn failing_two() -> [Damage; 2] {
+    let early = Damage {
+        at: 45,
+        byte: 0,
+        length: 46,
+        cause: Cause::File(Flaw::Cut),
+        place: 44,
+    };
+    [changed(10, 0, Flaw::UnknownKind, 10), early]
+}
+
 // What a record says is refused: by the plan, or since a code is none.
 fn untaken() -> [Damage; 9] {
     [
@@ -101,12 +116,18 @@ fn untaken() -> [Damage; 9] {
     ]
 }
 
+// The file with one byte replaced.
+fn damaged(at: usize, byte: u8) -> [u8; 49] {
+    let mut bytes = FILE;
+    if let Some(here) = bytes.get_mut(at) {
+        *here = byte;
+    }
+    bytes
+}
+
 // Reads the damaged file over a plan and codes.
 fn read_damaged(damage: &Damage, plan: &mut Plan, codes: &mut [u8; 8]) -> Result<(), Fault> {
-    let mut bytes = FILE;
-    if let Some(byte) = bytes.get_mut(damage.at) {
-        *byte = damage.byte;
-    }
+    let bytes = damaged(damage.at, damage.byte);
     read(&bytes[..damage.length.min(49)], plan, codes)
 }
 
@@ -130,7 +151,149 @@ fn refuses(rt: &impl Abort, damages: &[Damage]) -> Result<(), Fail> {
 fn damaged_files_are_refused(rt: HostRuntime) -> Result<(), Fail> {
     refuses(&rt, &ends())?;
     refuses(&rt, &misplaced())?;
+    refuses(&rt, &failing_two())?;
     refuses(&rt, &untaken())
+}
+
+// So many handlers in a row, and nothing else.
+fn handlers() -> [u8; 650] {
+    let mut bytes = [0; 650];
+    for (at, byte) in bytes.iter_mut().enumerate() {
+        *byte = FILE[at % 10];
+    }
+    bytes
+}
+
+// The bytes are refused: by the test of this number, and in these words.
+fn told(rt: &impl Abort, heap: Global, bytes: &[u8], what: &str) -> Result<(), Fail> {
+    let (mut plan, mut codes) = (Plan::new(), [7; 8]);
+    let said = match read(bytes, &mut plan, &mut codes) {
+        Ok(()) => format!(in heap; "read")?,
+        Err(fault) => format!(in heap; "{} {fault}", fault.cause.number())?,
+    };
+    assert_eq!(rt; said.as_str(), what);
+    Ok(())
+}
+
+#[test]
+fn each_refusal_by_the_plan_is_told(rt: HostRuntime) -> Result<(), Fail> {
+    let heap = rt.alloc();
+    told(
+        &rt,
+        heap,
+        &handlers(),
+        "1 at byte 640: there are 64 handlers already",
+    )?;
+    told(&rt, heap, &damaged(2, 0), "2 at byte 0: the period is 0")?;
+    told(
+        &rt,
+        heap,
+        &damaged(6, 0),
+        "3 at byte 0: the shortest time is 0 or above the longest",
+    )?;
+    told(
+        &rt,
+        heap,
+        &damaged(9, 9),
+        "4 at byte 0: there is no such core: cores are 1 to 8",
+    )?;
+    let long = [
+        1, 255, 255, 0, 0, 0, 1, 0, 2, 1, 1, 255, 254, 0, 0, 0, 1, 0, 2, 1,
+    ];
+    told(
+        &rt,
+        heap,
+        &long,
+        "5 at byte 10: the round would pass 16777216",
+    )?;
+    told(
+        &rt,
+        heap,
+        &damaged(22, 3),
+        "6 at byte 20: there is no handler of that number",
+    )?;
+    told(
+        &rt,
+        heap,
+        &damaged(12, 5),
+        "7 at byte 20: joined handlers need equal periods and equal offsets",
+    )?;
+    told(
+        &rt,
+        heap,
+        &damaged(22, 1),
+        "8 at byte 20: the join would close a circle",
+    )
+}
+
+#[test]
+fn each_refusal_of_a_file_is_told(rt: HostRuntime) -> Result<(), Fail> {
+    let heap = rt.alloc();
+    told(
+        &rt,
+        heap,
+        &FILE[..47],
+        "10 at byte 47: the file ends inside a record, or before its end record",
+    )?;
+    told(
+        &rt,
+        heap,
+        &damaged(0, 5),
+        "11 at byte 0: there is no such kind of record: kinds are 1 to 4",
+    )?;
+    told(
+        &rt,
+        heap,
+        &FILE,
+        "12 at byte 48: the record does not stand in the order of a file",
+    )?;
+    told(
+        &rt,
+        heap,
+        &damaged(25, 4),
+        "13 at byte 23: there is no such code: codes are 1, 2 and 3",
+    )?;
+    let flaw = write(&Plan::new(), &[1; 8], &mut [0; 24])
+        .err()
+        .unwrap_or(Flaw::Cut);
+    let said = format!(in heap; "{} {flaw}", flaw.number())?;
+    assert_eq!(rt; said.as_str(), "14 the file is longer than the room for it");
+    Ok(())
+}
+
+// Goes over the twelve records of the file.
+fn pass_file(rt: &impl Abort, reader: &mut Reader) -> Result<(), Fail> {
+    for _ in 0..12 {
+        assert_eq!(rt; reader.next_record()?.is_some(), true);
+    }
+    Ok(())
+}
+
+// Behind the end record there is none, however often it is asked for.
+#[test]
+fn a_reader_ends_where_the_file_ends(rt: HostRuntime) -> Result<(), Fail> {
+    let mut reader = Reader::new(&FILE[..LENGTH]);
+    pass_file(&rt, &mut reader)?;
+    assert_eq!(rt; reader.next_record()?.is_none(), true);
+    assert_eq!(rt; reader.next_record()?.is_none(), true);
+    Ok(())
+}
+
+// A byte behind the end record is out of order, be it of no kind or a second end, however often it is asked for.
+#[test]
+fn no_byte_stands_behind_the_end(rt: HostRuntime) -> Result<(), Fail> {
+    for byte in [0, 1, 4, 9] {
+        let bytes = damaged(LENGTH, byte);
+        let mut reader = Reader::new(&bytes);
+        pass_file(&rt, &mut reader)?;
+        let fault = Fault {
+            cause: Cause::File(Flaw::OutOfOrder),
+            place: LENGTH,
+        };
+        assert_eq!(rt; reader.next_record().err(), Some(fault));
+        assert_eq!(rt; reader.next_record().err(), Some(fault));
+    }
+    Ok(())
 }
 
 // No join stands before the first: its numbers may be any, for the file, and the plan refuses them.

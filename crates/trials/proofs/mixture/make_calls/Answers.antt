@@ -1,0 +1,11 @@
+use Rattle.std.proofs.Common.{map, subst}
+use Rattle.trials.specs.Mixtures.{said, AllAnswered}
+use Rattle.trials.proofs.Mixing.{answered_as_listed}
+use Rattle.trials.proofs.mixture.make_calls.Goals as goal
+
+pub returns : goal.returns
+returns c =
+    let made = c.make_all.ensures in
+    let replies = map said c.make_all.result in
+    answered_as_listed made.0 _
+    (subst (λ qs. AllAnswered qs replies made.0) c.calls.ensures.asks made.1)
