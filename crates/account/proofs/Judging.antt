@@ -1,5 +1,5 @@
 -- A check of a sample whose verdict is known finds that verdict.
-use Rattle.std.proofs.Common.{◌≡◌, ℕ, List, Ok, Result, sym, ap, ◌∙◌, subst, inl, inr, arith}
+use Rattle.std.proofs.Common.{◌≡◌, List, Ok, Result, sym, ap, ◌∙◌, subst, inl, inr, arith}
 use Rattle.std.proofs.lemmas.List.{length-take-le}
 use Rattle.order.specs.Laws.{Choice}
 use Rattle.terms.specs.declared.refusals.Refusal.{Refusal}

@@ -4,7 +4,7 @@ use Rattle.plan.specs.Contents.{Contents, contents}
 use Rattle.banks.specs.Codes.{number_of}
 use Rattle.listing.specs.declared.Listing.{Listing}
 use Rattle.listing.specs.Taking.{Lists}
-use Rattle.planfile.specs.Files.{file_of}
+use Rattle.planfile.specs.Files.{file_of, record_length}
 use Rattle.planfile.specs.Reads.{IsFile}
 use Rattle.planfile.specs.Theorems.{longest}
 use Rattle.texts.specs.Texts.{text_of}
@@ -22,8 +22,8 @@ pub record IsTextOf (bytes text : List ℕ) : Type 0 where
   pub file : IsFile bytes contents codes
   pub is : text ≡ text_of contents codes
 
--- so it is of every input whose first n bytes these are, where n is the length of the longest file and
--- one record more, or above (an input that is shorter has no others)
+-- so it is of every input whose first n bytes these are, where n is no less than the longest file and
+-- one handler's record more; these are all bytes of an input that is shorter
 abbrev pub OfEveryInput : List ℕ → (List ℕ → Type 0) → Type 0
 OfEveryInput bytes Such =
-    (n : ℕ) (input : List ℕ) → longest + 10 ≤ n → take n input ≡ bytes → Such input
+    (n : ℕ) (input : List ℕ) → longest + record_length 1 ≤ n → take n input ≡ bytes → Such input
