@@ -1,7 +1,7 @@
 // Gathers what can be reached, level by level, until a level brings nothing new.
 #![tactic(auto)]
 
-ghost use Rattle.std.specs.Prelude.{◌≡◌, ◌≤◌, List, [], ◌∷◌, length, take, Decides, MatchResult, OnErr};
+ghost use Rattle.std.specs.Prelude.{◌≡◌, ℕ, ◌*◌, ◌≤◌, List, [], ◌∷◌, length, take, Decides, MatchResult, OnErr};
 ghost use Rattle.std.specs.List.{Contains as Has};
 ghost use Rattle.gather.specs.Levels.{Tells, Closes, Gathered, Halts, Filled, Halted};
 ghost use Rattle.gather.specs.Growth.{Absorbs};
@@ -10,17 +10,31 @@ ghost use Rattle.std.proofs.lemmas.Bool.Decides.{Decides-eqb};
 use crate::lent::Lent;
 use crate::tables::{Inserted, Table};
 
+pub mod indexed;
 pub mod lent;
 pub mod tables;
 
 /// Elements that `==` tells apart: two that it says are equal are one. `Eq` alone would say only
 /// that `==` is an equivalence.
 pub trait Element: Copy + PartialEq {
+    // The code of an element. It is a function of the element, so equal elements have one code.
+    ghost filed: { Self → ℕ };
+
+    /// The code by which an index files the element: the high bits choose the place.
+    fn code(&self) -> u16
+        ensures { result ≡ filed self.now };
+
     ghost told: { Tells Self.PartialEq.eq };
 }
 
 impl Element for u8 {
+    ghost filed = { λ x. x * 256 };
+
     ghost told = { Decides-eqb };
+
+    fn code(&self) -> u16 {
+        *self as u16 * 256
+    }
 }
 
 /// What comes next: a rule holds one level of elements, and can go on to the next.
@@ -35,14 +49,14 @@ pub trait Rule {
     // Holds of a rule before and after it went on.
     ghost steps: { Self → Self → Type 0 };
 
-    // Holds of a rule that could not go on, and of why.
-    ghost halts: { Self → Self.Fault → Type 0 };
+    // Holds of a rule that could not go on, of why, and of what it is then.
+    ghost halts: { Self → Self.Fault → Self → Type 0 };
 
     fn level(&self) -> &[Self::Item]
         ensures { result.now ≡ shows self.now };
 
     fn advance(&mut self) -> Result<(), Self::Fault>
-        ensures { MatchResult result (λ _. steps self.old self.new) (λ e. halts self.old e) };
+        ensures { MatchResult result (λ _. steps self.old self.new) (λ e. halts self.old e self.new) };
 }
 
 /// Where a gathering closed: so many levels each brought something new, and so many elements were found in them.

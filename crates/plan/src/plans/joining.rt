@@ -51,7 +51,7 @@ impl Rule for Along<'_> {
 
     ghost steps = { λ s t. (t.joins.now ≡ s.joins.now) × Follows s.joins.now s.level.items t.level.items };
 
-    ghost halts = { λ _ _. ⊥ };
+    ghost halts = { λ _ _ _. ⊥ };
 
     fn level(&self) -> &[u8] {
         &self.level
