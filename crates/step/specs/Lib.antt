@@ -1,8 +1,13 @@
 pub mod Choosing
+pub mod Codes
 pub mod Given
 pub mod Memory
+pub mod Moments
+pub mod Orders
+pub mod Prepared
 pub mod Reaching
 pub mod Rows
 pub mod Serving
+pub mod Starting
 pub mod Successors
 pub mod Same
