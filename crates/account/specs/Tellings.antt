@@ -1,10 +1,8 @@
 -- What is told of a time, and of a core.
-use Rattle.std.specs.Prelude.{◌≡◌, ◌≢◌, ℕ, ◌+◌, ◌-◌, min, List, length, Some, None, Option}
+use Rattle.std.specs.Prelude.{◌≡◌, ◌≢◌, ℕ, ◌+◌, ◌-◌, List, length, Some, None, Option}
 use Rattle.gather.specs.Growth.{Grown, Overfull}
 use Rattle.order.specs.declared.cores.Core.{Core}
 use Rattle.plan.specs.Contents.{Contents, at, Known}
-use Rattle.model.specs.declared.verdicts.Verdict.{Verdict}
-use Rattle.model.specs.declared.verdicts.Verdict.TheVariants.{Kept, Missed, RowsShort}
 use Rattle.model.specs.Runs.{mark}
 use Rattle.step.specs.declared.states.State.{State}
 use Rattle.fronts.specs.Fronts.{LateInOne, Lowest}
@@ -21,16 +19,6 @@ IsOn p core n = Known p n × ((at p (n - 1)).core ≡ core.number)
 abbrev pub IsMarkTime : Contents → ℕ → Option ℕ → Type 0
 IsMarkTime p t (Some k) = t ≡ mark p k
 IsMarkTime p t None = (k : ℕ) → t ≢ mark p k
-
--- the latest time that a clock shows
-abbrev pub end_of_clock : ℕ
-end_of_clock = 18446744073709551615
-
--- the time that gives the verdict, as a clock shows it
-abbrev pub last_time : Contents → Verdict → ℕ
-last_time p (Kept k c) = min (mark p k) end_of_clock
-last_time p (Missed t n) = t
-last_time p (RowsShort rows t) = t
 
 -- putting the states of a mark time among the marks: so many are new, or there is no room for one
 abbrev pub Marks : List State → List State → ℕ → Event → List State → Type 0

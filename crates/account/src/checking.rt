@@ -1,17 +1,19 @@
 // The plan of a sample, checked.
-ghost use Rattle.std.specs.Prelude.{◌≡◌, IfOk, MatchResult};
+ghost use Rattle.std.specs.Prelude.{◌≡◌, IfOk, IsOk, MatchResult};
 ghost use Rattle.plan.specs.Contents.{contents};
 ghost use Rattle.samples.specs.Plans.{Known, plan_of};
 ghost use Rattle.laws.specs.Checks.{tables};
 ghost use Rattle.account.specs.declared.checking.Trouble.TheVariants.{Refused, Memory};
 ghost use Rattle.account.specs.Accounts.{SizedFor, FindsKnown, AsKnown, counted};
 
+use crate::moments::Telling;
 use banks::codes::code_bank;
-use checks::check;
+use checks::{Observed, observe};
 use model::verdicts::Verdict;
 use plan::plans::Plan;
 use samples::Sample;
 use std::alloc::{AllocError, Global};
+use std::{io, mem};
 use step::states::State;
 use terms::refusals::Refusal;
 use thiserror::Error;
@@ -53,7 +55,8 @@ pub(crate) struct Tables {
 impl Tables {
     // Tables of as many rows as the sample names.
     pub(crate) fn of(heap: Global, sample: &Sample) -> Result<Tables, AllocError>
-        ensures { IfOk result (λ t. SizedFor sample.now (tables t.front.items t.back.items t.marks.items)) }
+        ensures { IfOk result (λ t. SizedFor sample.now
+            (tables t.front.items t.back.items t.marks.items)) }
     {
         Ok(Tables {
             front: vec![in heap; State::new(); sample.working.into()]?,
@@ -63,46 +66,91 @@ impl Tables {
     }
 }
 
-// Checks the plan of the sample under its codes.
-fn judge(
+// Makes the plan of the sample by its calls.
+pub(crate) fn made(sample: &Sample) -> Result<Plan, Trouble>
+    ensures holds { IfOk result (λ p. contents p ≡ plan_of sample.now) }
+    ensures accepted { Known sample.now → IsOk result }
+{
+    let plan = sample.plan()?;
+    Ok(plan)
+}
+
+// What came of a check, and the first error of telling of it.
+#[derive(Drop)]
+struct Told {
+    result: Result<Verdict, Refusal>,
+    printed: io::Result<()>,
+}
+
+// Checks the plan of the sample under its codes, and tells of each time; `rows` are for the marks
+// up to then.
+fn judge<'a>(
+    rt: &'a HostRuntime,
     sample: &Sample,
     plan: &Plan,
     front: &mut [State],
     back: &mut [State],
     marks: &mut [State],
-) -> Result<Verdict, Refusal>
-    ensures { Known sample.now → contents plan.now ≡ plan_of sample.now → SizedFor sample.now (tables front.old back.old marks.old) → FindsKnown sample.now result marks.new }
+    rows: &'a mut [State],
+) -> Told
+    ensures { Known sample.now → contents plan.now ≡ plan_of sample.now
+        → SizedFor sample.now (tables front.old back.old marks.old)
+        → FindsKnown sample.now result.result marks.new }
 {
-    check(plan, &code_bank(&sample.codes), front, back, marks)
+    let bank = code_bank(&sample.codes);
+    let telling = Telling::new(rt, rows);
+    let Observed {
+        result,
+        mut observer,
+    } = observe(plan, &bank, front, back, marks, telling);
+    let printed = observer.end(&result);
+    Told { result, printed }
 }
 
-// A sample's plan, the verdict on it, and the tables as the check left them.
+// A sample's plan, the verdict on it, the tables as the check left them, and the first error of
+// telling of the check.
 #[derive(Drop)]
 pub(crate) struct Checked {
     pub(crate) plan: Plan,
     pub(crate) verdict: Verdict,
     tables: Tables,
+    printed: io::Result<()>,
 }
 
 impl Checked {
-    // Makes the plan by its calls and checks it under the codes of the sample, with as many rows as it names.
-    pub(crate) fn of(heap: Global, sample: &Sample) -> Result<Checked, Trouble>
-        ensures known { Known sample.now → MatchResult result (AsKnown sample.now) (λ e. e ≡ Memory) }
+    // Checks the sample's plan under the codes of the sample, with as many rows as it names, and
+    // prints a line for each time up to the one that gives the verdict.
+    pub(crate) fn of(rt: &HostRuntime, sample: &Sample, plan: Plan) -> Result<Checked, Trouble>
+        ensures known { Known sample.now → contents plan ≡ plan_of sample.now
+            → MatchResult result (AsKnown sample.now) (λ e. e ≡ Memory) }
     {
-        let plan = sample.plan()?;
-        let mut tables = Tables::of(heap, sample)?;
-        let verdict = judge(
+        let mut tables = Tables::of(rt.alloc(), sample)?;
+        let mut rows = vec![in rt.alloc(); State::new(); sample.marks.into()]?;
+        let Told { result, printed } = judge(
+            rt,
             sample,
             &plan,
             &mut tables.front,
             &mut tables.back,
             &mut tables.marks,
-        )?;
+            &mut rows,
+        );
+        let verdict = result?;
         Ok(Checked {
             plan,
             verdict,
             tables,
+            printed,
         })
+    }
+
+    // The first error of printing those lines.
+    pub(crate) fn printed(&mut self) -> io::Result<()>
+        ensures plan { self.new.plan ≡ self.old.plan }
+        ensures verdict { self.new.verdict ≡ self.old.verdict }
+        ensures tables { self.new.tables ≡ self.old.tables }
+    {
+        mem::replace(&mut self.printed, Ok(()))
     }
 
     // The marks, where the verdict is kept: as many rows as it counts, from the front.

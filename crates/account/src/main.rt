@@ -11,9 +11,8 @@ mod mixing;
 mod moments;
 mod wording;
 
-use crate::checking::Checked;
+use crate::checking::{Checked, made};
 use crate::mixing::show_mixture;
-use crate::moments::show_times;
 use crate::wording::{Meaning, Said, show_marks, show_plan, show_sizes};
 use anyhow::bail;
 use listing::finish;
@@ -25,11 +24,12 @@ use std::process::ExitCode;
 fn show_sample(rt: &HostRuntime, number: usize, sample: &Sample) -> anyhow::Result<bool>
     ensures { Known sample.now → IfOk result (λ same. same ≡ true) }
 {
-    let checked = Checked::of(rt.alloc(), sample)?;
+    let plan = made(sample)?;
     println!(rt; "sample {number}")?;
-    show_plan(rt, &checked.plan, &sample.codes)?;
-    show_sizes(rt, &checked.plan, sample)?;
-    show_times(rt, sample, &checked)?;
+    show_plan(rt, &plan, &sample.codes)?;
+    show_sizes(rt, &plan, sample)?;
+    let mut checked = Checked::of(rt, sample, plan)?;
+    checked.printed()?;
     show_marks(rt, &checked.plan, checked.marks())?;
     println!(rt; "{}", Said(checked.verdict))?;
     println!(rt;

@@ -1,19 +1,20 @@
 // What a check sees at each time up to that of its verdict.
-ghost use Rattle.std.specs.Prelude.{◌≡◌};
-ghost use Rattle.plan.specs.Contents.{contents};
-ghost use Rattle.account.specs.Tellings.{IsMarkTime, last_time, Marks, Tells};
+ghost use Rattle.std.specs.Prelude.{◌-◌, Decides};
+ghost use Rattle.plan.specs.Contents.{contents, Known};
+ghost use Rattle.fronts.specs.Fronts.{LateInOne, Lowest};
+ghost use Rattle.account.specs.Tellings.{IsMarkTime, Marks, Tells};
 
-use crate::checking::{Checked, Tables};
 use crate::wording::Many;
-use banks::codes::code_bank;
-use fronts::{advance, begin, first_late};
+use checks::observing::Observer;
 use gather::lent::Lent;
 use gather::tables::{Inserted, Table};
-use model::verdicts::Verdict;
+use model::verdicts::{Rows, Verdict};
 use plan::plans::Plan;
-use samples::Sample;
-use std::{fmt, mem};
+use std::{fmt, io, mem};
+use step::lateness::late;
+use step::moments;
 use step::states::State;
+use terms::refusals::Refusal;
 
 // What happens at a time: somebody is late, or else, at a mark time, some of the states are new marks.
 #[derive(Clone, Copy)]
@@ -64,16 +65,24 @@ fn mark_time(plan: &Plan, time: u64) -> Option<u64>
     }
 }
 
-// The time that gives the verdict.
-fn last_time(plan: &Plan, verdict: Verdict) -> u64
-    ensures { result ≡ last_time (contents plan.now) verdict }
+// Whether the handler of this number is late in one of the states.
+fn late_in_one(plan: &Plan, time: u64, states: &[State], number: u8) -> bool
+    ensures { Decides result (Known (contents plan.now) number
+        × LateInOne (contents plan.now) time states.now (number - 1)) }
 {
-    match verdict {
-        Verdict::Kept { rounds, .. } => u64::from(plan.round())
-            .saturating_mul(rounds)
-            .saturating_add(plan.settling().into()),
-        Verdict::Missed { time, .. } | Verdict::RowsShort { time, .. } => time,
+    states.iter().any(|state| late(plan, time, state, number))
+}
+
+// The lowest number that is late in one of the states.
+fn lowest_late(plan: &Plan, time: u64, states: &[State]) -> Option<u8>
+    ensures { Lowest (LateInOne (contents plan.now) time states.now) result }
+{
+    for place in 0..plan.count() {
+        if late_in_one(plan, time, states, place + 1) {
+            return Some(place + 1);
+        }
     }
+    None
 }
 
 // Puts the states of a mark time among the marks.
@@ -92,50 +101,77 @@ fn mark<M: Table<Item = State>>(states: &[State], marks: &mut M) -> Event
 }
 
 impl Moment {
-    fn of<W: Table<Item = State>, M: Table<Item = State>>(
-        plan: &Plan,
-        time: u64,
-        front: &W,
-        marks: &mut M,
-    ) -> Moment
-        ensures { Tells (contents plan.now) time (W.members front.now)
+    fn of<M: Table<Item = State>>(plan: &Plan, time: u64, states: &[State], marks: &mut M) -> Moment
+        ensures { Tells (contents plan.now) time states.now
             (M.members marks.old) (M.room marks.old) result (M.members marks.new) }
     {
         let mark_time = mark_time(plan, time);
-        let event = match first_late(plan, time, front) {
+        let event = match lowest_late(plan, time, states) {
             Some(number) => Event::Late(number),
-            None if mark_time.is_some() => mark(front.rows(), marks),
+            None if mark_time.is_some() => mark(states, marks),
             None => Event::Nothing,
         };
         Moment {
             time,
             mark_time,
-            states: front.rows().len(),
+            states: states.len(),
             event,
         }
     }
 }
 
-// Prints a line for each time, up to the one that gives the verdict. It only prints: no contract.
-pub(crate) fn show_times(
-    rt: &HostRuntime,
-    sample: &Sample,
-    checked: &Checked,
-) -> anyhow::Result<()> {
-    let mut tables = Tables::of(rt.alloc(), sample)?;
-    let (plan, bank) = (&checked.plan, code_bank(&sample.codes));
-    let mut front = Lent::new(&mut tables.front);
-    let mut back = Lent::new(&mut tables.back);
-    let mut marks = Lent::new(&mut tables.marks);
-    let mut room = begin(&mut front);
-    for time in 0..=last_time(plan, checked.verdict) {
-        if room.is_err() {
-            println!(rt; "at {time}: more states than working rows")?;
-            return Ok(());
+// Prints a line for each time that it sees, and has the marks up to then. It only prints: no
+// function of it has a contract.
+#[derive(Drop)]
+pub(crate) struct Telling<'a> {
+    rt: &'a HostRuntime,
+    marks: Lent<'a, State>,
+    // The first error, after which nothing is printed.
+    printed: io::Result<()>,
+}
+
+impl<'a> Telling<'a> {
+    // With these rows for the marks.
+    pub(crate) fn new(rt: &'a HostRuntime, marks: &'a mut [State]) -> Telling<'a> {
+        Telling {
+            rt,
+            marks: Lent::new(marks),
+            printed: Ok(()),
         }
-        println!(rt; "{}", Moment::of(plan, time, &front, &mut marks))?;
-        room = advance(plan, &bank, time, &front, &mut back);
-        mem::swap(&mut front, &mut back);
     }
-    Ok(())
+
+    fn tell(&mut self, plan: &Plan, time: u64, states: &[State]) -> io::Result<()> {
+        let moment = Moment::of(plan, time, states, &mut self.marks);
+        println!(self.rt; "{moment}")
+    }
+
+    // Where the states of a time did not fit, prints a line for that time too, which was not seen.
+    // Answers the first error of printing.
+    pub(crate) fn end(&mut self, answer: &Result<Verdict, Refusal>) -> io::Result<()> {
+        mem::replace(&mut self.printed, Ok(()))?;
+        if let Ok(
+            Verdict::RowsShort {
+                rows: Rows::Working,
+                time,
+            },
+        ) = *answer
+        {
+            println!(self.rt; "at {time}: more states than working rows")?;
+        }
+        Ok(())
+    }
+}
+
+impl Observer for Telling<'_> {
+    ghost seen = { λ _ _ _ _ _ _. Unit {0} };
+
+    fn see(&mut self, moment: &moments::Moment, times: u64, states: &[State]) {
+        let last = moment.time();
+        let first = last.saturating_sub(times.saturating_sub(1));
+        for time in first..=last {
+            if self.printed.is_ok() {
+                self.printed = self.tell(moment.plan(), time, states);
+            }
+        }
+    }
 }

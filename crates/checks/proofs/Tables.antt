@@ -1,8 +1,10 @@
 -- What a check answers and leaves, where its tables are lent rows.
 use Rattle.std.proofs.Common.{◌≡◌, ◌≤◌, true, List, length, take, drop, Ok, refl, ap, ◌∙◌, inl, inr, arith}
 use Rattle.std.proofs.lemmas.List.{length-take-le}
-use Rattle.gather.specs.declared.lent.Lent.{Lent}
-use Rattle.gather.specs.Lents.{Emptied, Extended}
+use Rattle.std.specs.declared.cmp.PartialEq.{Ghosts as Equals}
+use Rattle.gather.specs.declared.Element.{Ghosts as Filed}
+use Rattle.gather.specs.declared.indexed.Indexed.{Indexed}
+use Rattle.gather.specs.Indexes.{Emptied, Extended}
 use Rattle.order.specs.Laws.{Choice}
 use Rattle.terms.specs.declared.refusals.Refusal.TheVariants.{UnfitTables}
 use Rattle.plan.specs.Contents.{Contents}
@@ -25,8 +27,8 @@ module _ (p : Contents) (D : Choice) where
       fit (inr (inr (inl e))) = omega (arith, e, few, same)
       fit (inr (inr (inr e))) = omega (arith, e, low)
 
-  module _ (was is : List State) (old new : Lent State) (before : old.rows.now ≡ was) where
-    pub marks_after : (v : Verdict) → KeptRows p D v (take new.count new.rows.now) → (is_kept v ≡ true → (s : Lent State) × Emptied old s × Extended s new) → (is_kept v ≡ true → is ≡ new.rows.now) → MarksAfter p D v was is
+  module _ (was is : List State) {E : Filed State} {P : Equals State} (old new : Indexed State E P) (before : old.rows.now ≡ was) where
+    pub marks_after : (v : Verdict) → KeptRows p D v (take new.count new.rows.now) → (is_kept v ≡ true → (s : Indexed State E P) × Emptied old s × Extended s new) → (is_kept v ≡ true → is ≡ new.rows.now) → MarksAfter p D v was is
     marks_after (Kept k c) kept frame after =
         let f = frame refl in
         let so_many : new.count ≡ c = omega (arith, kept.0, length-take-le new.count new.rows.now new.few) in

@@ -1,18 +1,21 @@
 // Checks: what is true of every run of a plan, found by following the states of one time to those of the next.
 #![tactic(auto)]
 
-ghost use Rattle.std.specs.Prelude.{IfOk};
+ghost use Rattle.std.specs.Prelude.{◌≡◌, IfOk, MatchResult};
 ghost use Rattle.gather.specs.Levels.{Tells};
 ghost use Rattle.plan.specs.Contents.{contents};
 ghost use Rattle.model.specs.Theorems.{VerdictsAreTrue};
 ghost use Rattle.laws.specs.Checks.{tables, Checks};
 ghost use Rattle.laws.specs.Outcomes.{VerdictHolds};
 ghost use Rattle.laws.specs.Laws.{ChecksCanBeTrusted};
+ghost use Rattle.checks.specs.Watching.{Watches, unseen};
 
+pub mod observing;
 mod rounds;
+mod sizes;
 
-use crate::rounds::judge;
-use gather::lent::Lent;
+use crate::observing::Observer;
+use crate::sizes::{judge_observed, judge_sized};
 use model::verdicts::{Rows, Verdict};
 use order::disciplines::Discipline;
 use plan::plans::Plan;
@@ -48,6 +51,47 @@ pub fn check<D: Discipline>(
     if front.len() != back.len() || front.len() > MOST_ROWS || marks.len() > MOST_ROWS {
         return Err(Refusal::UnfitTables);
     }
-    let (front, back) = (Lent::new(front), Lent::new(back));
-    Ok(judge(plan, d, front, back, &mut Lent::new(marks)))
+    let verdict = judge_sized(plan, d, front, back, marks);
+    Ok(verdict)
+}
+
+/// What came of a check, and what its observer became.
+#[derive(Drop)]
+pub struct Observed<O> {
+    pub result: Result<Verdict, Refusal>,
+    pub observer: O,
+}
+
+/// The same as `check`, while an observer looks on: it sees the states of each time from 0 to that
+/// of the verdict, but for a time whose states do not fit. Where the check is refused it sees
+/// nothing.
+pub fn observe<D: Discipline, O: Observer>(
+    plan: &Plan,
+    d: &D,
+    front: &mut [State],
+    back: &mut [State],
+    marks: &mut [State],
+    observer: O,
+) -> Observed<O>
+    ensures checks { Checks (contents plan.now) (D.first d.now)
+        (tables front.old back.old marks.old) result.result
+        (tables front.new back.new marks.new) }
+    ensures holds { IfOk result.result (VerdictHolds (contents plan.now) (D.first d.now)
+        (tables front.old back.old marks.old) (tables front.new back.new marks.new)) }
+    ensures watched { MatchResult result.result
+        (λ v. Watches O.seen (contents plan.now) (D.first d.now) 0 observer
+        (unseen (contents plan.now) v) result.observer)
+        (λ _. result.observer ≡ observer) }
+{
+    if front.len() != back.len() || front.len() > MOST_ROWS || marks.len() > MOST_ROWS {
+        return Observed {
+            result: Err(Refusal::UnfitTables),
+            observer,
+        };
+    }
+    let judged = judge_observed(plan, d, front, back, marks, observer);
+    Observed {
+        result: Ok(judged.verdict),
+        observer: judged.observer,
+    }
 }

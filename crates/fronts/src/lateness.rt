@@ -3,31 +3,52 @@ ghost use Rattle.std.specs.Prelude.{◌-◌, Decides};
 ghost use Rattle.order.specs.Laws.{Choice};
 ghost use Rattle.plan.specs.Contents.{contents, Known};
 ghost use Rattle.model.specs.Runs.{Misses};
-ghost use Rattle.fronts.specs.Fronts.{Front, LateInOne, Lowest};
+ghost use Rattle.fronts.specs.Fronts.{Front, LateInOne, Lowest, WorkingInOne};
 
 use gather::tables::Table;
-use plan::plans::Plan;
-use step::lateness::late;
+use step::moments::Moment;
 use step::states::State;
 
-// Whether the handler of this number is late at `t` in one of the rows.
-fn late_in_one(plan: &Plan, t: u64, rows: &[State], number: u8) -> bool
-    ensures { Decides result (Known (contents plan.now) number × LateInOne (contents plan.now) t rows.now (number - 1)) }
+// Whether the handler of this number has time left in one of the rows.
+fn working_in_one(rows: &[State], number: u8) -> bool
+    ensures { Decides result (WorkingInOne rows.now number) }
 {
-    rows.iter().any(|state| late(plan, t, state, number))
+    rows.iter().any(|state| state.time_left(number) > 0)
 }
 
-// The lowest number that is late at `t` in one of the rows.
-fn lowest_late(plan: &Plan, t: u64, rows: &[State]) -> Option<u8>
-    ensures { Lowest (LateInOne (contents plan.now) t rows.now) result }
+// Whether the handler of this number is late in one of the rows.
+fn late_in_one(moment: &Moment, rows: &[State], number: u8) -> bool
+    ensures { Decides result (Known (contents moment.now.plan.now) number
+        × LateInOne (contents moment.now.plan.now) moment.now.time rows.now (number - 1)) }
 {
-    (1..plan.count() + 1).find(|number| late_in_one(plan, t, rows, *number))
+    // Few handlers are due at a time, and the rows are many.
+    moment.due(number) && working_in_one(rows, number)
 }
 
-/// The lowest number that is late at `t` in a state of the front, if one is.
-pub fn first_late<W: Table<Item = State>>(plan: &Plan, t: u64, front: &W) -> Option<u8>
-    ensures rows { Lowest (LateInOne (contents plan.now) t (W.members front.now)) result }
-    ensures misses { (D : Choice) → Front (contents plan.now) D t (W.members front.now) → Lowest (Misses (contents plan.now) D t) result }
+// The lowest number that is late in one of the rows.
+fn lowest_late(moment: &Moment, rows: &[State]) -> Option<u8>
+    ensures { Lowest
+        (LateInOne (contents moment.now.plan.now) moment.now.time rows.now) result }
 {
-    lowest_late(plan, t, front.rows())
+    for place in 0..moment.plan().count() {
+        if late_in_one(moment, rows, place + 1) {
+            return Some(place + 1);
+        }
+    }
+    None
+}
+
+/// The lowest number that is late at this time in a state of the front, if one is.
+pub fn first_late<W: Table<Item = State>>(moment: &Moment, front: &W) -> Option<u8>
+    ensures rows { Lowest
+        (LateInOne (contents moment.now.plan.now) moment.now.time (W.members front.now)) result }
+    ensures misses { (D : Choice)
+        → Front (contents moment.now.plan.now) D moment.now.time (W.members front.now)
+        → Lowest (Misses (contents moment.now.plan.now) D moment.now.time) result }
+{
+    // Where nobody starts, no period ends.
+    if moment.calm() > 0 {
+        return None;
+    }
+    lowest_late(moment, front.rows())
 }

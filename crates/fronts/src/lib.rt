@@ -5,60 +5,106 @@ ghost use Rattle.std.specs.Prelude.{◌≡◌, ◌+◌, [], MatchResult};
 ghost use Rattle.plan.specs.Contents.{contents};
 ghost use Rattle.model.specs.Runs.{StateAt};
 ghost use Rattle.model.specs.Verdicts.{Outnumber};
+ghost use Rattle.step.specs.Moments.{Prepared};
 ghost use Rattle.fronts.specs.Fronts.{StepsTo, FollowsOne, Joins, Front};
 
 mod beginning;
+mod idleness;
 mod lateness;
 
 pub use beginning::begin;
 use gather::tables::{Inserted, Table};
+pub use idleness::is_idle;
 pub use lateness::first_late;
 use order::disciplines::Discipline;
-use plan::plans::Plan;
 use step::following::Successors;
+use step::moments::Moment;
 use step::states::State;
 
 /// There are more states than rows.
 #[derive(Clone, Copy)]
 pub struct NoRoom;
 
-// Puts in the states that follow one, at `t`.
-fn spread<D: Discipline, W: Table<Item = State>>(
-    plan: &Plan,
-    d: &D,
-    t: u64,
-    state: &State,
-    back: &mut W,
-) -> Result<(), NoRoom>
-    ensures joins { Joins (StepsTo (contents plan.now) (D.first d.now) t state.now) (W.room back.old) (W.members back.old) result (W.members back.new) }
+// Puts in a state.
+fn put<W: Table<Item = State>>(state: &State, back: &mut W) -> Result<(), NoRoom>
+    ensures joins { Joins (λ x. x ≡ state.now)
+        (W.room back.old) (W.members back.old) result (W.members back.new) }
     ensures same_room { W.room back.new ≡ W.room back.old }
     ensures frame { W.extended back.old back.new }
 {
-    for next in Successors::of(plan, d, t, *state) {
-        match back.insert(&next) {
-            Inserted::New | Inserted::There => {}
-            Inserted::Full => return Err(NoRoom),
-        }
+    match back.insert(state) {
+        Inserted::New | Inserted::There => Ok(()),
+        Inserted::Full => Err(NoRoom),
+    }
+}
+
+// Puts in all states that follow one.
+fn spread_all<D: Discipline, W: Table<Item = State>>(
+    moment: &Moment,
+    d: &D,
+    state: &State,
+    back: &mut W,
+) -> Result<(), NoRoom>
+    requires { Prepared (D.first d.now) moment.now }
+    ensures joins { Joins
+        (StepsTo (contents moment.now.plan.now) (D.first d.now) moment.now.time state.now)
+        (W.room back.old) (W.members back.old) result (W.members back.new) }
+    ensures same_room { W.room back.new ≡ W.room back.old }
+    ensures frame { W.extended back.old back.new }
+{
+    for next in Successors::of(moment, d, *state) {
+        put(&next, back)?;
     }
     Ok(())
 }
 
-/// Puts into `back`, emptied first, the states that can follow those of `front` at `t`.
-pub fn advance<D: Discipline, W: Table<Item = State>>(
-    plan: &Plan,
+// Puts in the states that follow one. Where there is but one, no room for others is made ready.
+fn spread<D: Discipline, W: Table<Item = State>>(
+    moment: &Moment,
     d: &D,
-    t: u64,
+    state: &State,
+    back: &mut W,
+) -> Result<(), NoRoom>
+    requires { Prepared (D.first d.now) moment.now }
+    ensures joins { Joins
+        (StepsTo (contents moment.now.plan.now) (D.first d.now) moment.now.time state.now)
+        (W.room back.old) (W.members back.old) result (W.members back.new) }
+    ensures same_room { W.room back.new ≡ W.room back.old }
+    ensures frame { W.extended back.old back.new }
+{
+    match moment.follower(d, *state) {
+        Some(next) => put(&next, back),
+        None => spread_all(moment, d, state, back),
+    }
+}
+
+/// Puts into `back`, emptied first, the states that can follow those of `front` at this time.
+pub fn advance<D: Discipline, W: Table<Item = State>>(
+    moment: &mut Moment,
+    d: &D,
     front: &W,
     back: &mut W,
 ) -> Result<(), NoRoom>
-    ensures joins { Joins (FollowsOne (contents plan.now) (D.first d.now) t (W.members front.now)) (W.room back.old) [] result (W.members back.new) }
-    ensures onward { Front (contents plan.now) (D.first d.now) t (W.members front.now) → MatchResult result (λ _. Front (contents plan.now) (D.first d.now) (t + 1) (W.members back.new)) (λ _. Outnumber (StateAt (contents plan.now) (D.first d.now) (t + 1)) (W.room back.old)) }
+    ensures joins { Joins
+        (FollowsOne (contents moment.old.plan.now) (D.first d.now) moment.old.time
+        (W.members front.now))
+        (W.room back.old) [] result (W.members back.new) }
+    ensures onward { Front (contents moment.old.plan.now) (D.first d.now) moment.old.time (W.members front.now)
+        → MatchResult result
+        (λ _. Front (contents moment.old.plan.now) (D.first d.now)
+        (moment.old.time + 1) (W.members back.new))
+        (λ _. Outnumber
+        (StateAt (contents moment.old.plan.now) (D.first d.now) (moment.old.time + 1))
+        (W.room back.old)) }
+    ensures of_plan { moment.new.plan.now ≡ moment.old.plan.now }
+    ensures clock { moment.new.time ≡ moment.old.time }
     ensures same_room { W.room back.new ≡ W.room back.old }
     ensures frame { (s : W) × W.emptied back.old s × W.extended s back.new }
 {
     back.clear();
+    moment.prepare(d, front.rows().len());
     for state in front.rows() {
-        spread(plan, d, t, state, back)?;
+        spread(moment, d, state, back)?;
     }
     Ok(())
 }

@@ -12,6 +12,7 @@ use step::choosing::{choice, ready};
 use step::following::Successors;
 use step::given::{Misfit, unit_with};
 use step::lateness::late;
+use step::moments::Moment;
 use step::starting::starts;
 use step::states::State;
 use terms::handlers::Handler;
@@ -44,7 +45,10 @@ fn listed(heap: Global, plan: &Plan, t: u64, state: State) -> Result<String, All
     let d = Numbered {
         criterion: FixedPriority,
     };
-    for next in Successors::of(plan, &d, t, state) {
+    let mut moment = Moment::new(plan);
+    moment.go_on(t);
+    moment.prepare(&d, 1);
+    for next in Successors::of(&moment, &d, state) {
         let (first, second) = (next.time_left(1), next.time_left(2));
         text.push_str(format!(in heap; "{first} {second};")?.as_str())?;
     }
@@ -114,7 +118,7 @@ fn fronts(plan: &Plan, rows: usize) -> Option<usize> {
     let mut front = Lent::new(&mut first[..1]);
     let mut back = Lent::new(&mut second[..rows.min(8)]);
     front.insert(&State::new());
-    advance(plan, &d, 0, &front, &mut back).ok()?;
+    advance(&mut Moment::new(plan), &d, &front, &mut back).ok()?;
     Some(back.rows().len())
 }
 

@@ -4,4 +4,5 @@ use Rattle.account.proofs.checking.judge.Goals as goal
 
 pub returns : goal.returns
 returns c = λ known same sized.
-    finds_known c.args.sample.now known _ _ sized _ _ same (one_choice _ _ c.code_bank.ensures) c.check.result c.check.ensures.checks
+    finds_known c.args.sample.now known _ _ sized _ _ same
+    (one_choice _ _ c.code_bank-bank.ensures) c.observe-result.result.result c.observe-result.ensures.checks
