@@ -1,0 +1,5 @@
+use Rattle.answers.proofs.Decoding.{Decoded}
+use Rattle.timing.proofs.judging.decoded.Given as goal
+
+abbrev pub invariant-loop-place : goal.invariant-loop-place
+invariant-loop-place l = Decoded l.numbers l.codes l.place
