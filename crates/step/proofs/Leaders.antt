@@ -6,7 +6,7 @@ use Rattle.order.specs.Laws.{Choice, IsLawfulChoice}
 use Rattle.plan.specs.Contents.{Contents, Sound, count, at}
 use Rattle.model.specs.Units.{State, left, Ready, Running, Served}
 use Rattle.model.proofs.Asking.{before_not_both}
-use Rattle.step.specs.Orders.{EachOnce, JoinedBefore, InOrder, Leads, LostBy}
+use Rattle.step.specs.Orders.{EachOnce, JoinedBefore, AllDone, InOrder, Leads, LostBy}
 use Rattle.step.proofs.Listing.{found}
 use Rattle.step.proofs.Reading.{drop_same}
 
@@ -176,18 +176,15 @@ module _ (p : Contents) (u : State) (places : List ℕ) (each : EachOnce p place
   leaders_rest lost = drop_same (count p) now was lost.long (λ i h. lost.kept i (λ k l _ e. omega (arith, each.known k l, e)))
 
 -- what asking of those that are joined before tells of one with time left
-pub joined_told : (p : Contents) → Sound p → (s : List ℕ) (i : ℕ) (places : List ℕ) → JoinedBefore p i places → i < count p → 0 < get_or s i 0 → (r : Bool)
-    → Decides r ((k : ℕ) → k < length places → get_or s (get_or places k 0) 0 ≡ 0) → Decides r (Ready p (take (count p) s) i)
-joined_told p ok s i places joined l works r told = (
+pub joined_told : (p : Contents) → Sound p → (s : List ℕ) (i word : ℕ) → JoinedBefore p i word → i < count p → 0 < get_or s i 0 → (r : Bool)
+    → Decides r (AllDone s word) → Decides r (Ready p (take (count p) s) i)
+joined_told p ok s i word joined l works r told = (
   λ e. record {
     working = rw (get_or-take (count p) s i 0 l) works;
-    waits = λ a j.
-        let f = found places a (joined.all a j) in
-        get_or-take (count p) s a 0 (ok.inside a i j).0 ∙ rw f.is at (told.0 e f.index f.inside);
+    waits = λ a j. get_or-take (count p) s a 0 (ok.inside a i j).0 ∙ told.0 e a ((joined.bits a).1 j);
   },
   λ ready.
-      told.1
-      (λ k h.
-      let j = joined.only k h in
-      sym (get_or-take (count p) s (get_or places k 0) 0 (ok.inside (get_or places k 0) i j).0) ∙ ready.waits (get_or places k 0) j),
+      told.1 (λ a b.
+      let j = (joined.bits a).0 b in
+      sym (get_or-take (count p) s a 0 (ok.inside a i j).0) ∙ ready.waits a j),
 )

@@ -1,6 +1,7 @@
 -- A time of a plan, and what depends on the time alone.
 use Rattle.std.specs.Prelude.{◌≡◌, ℕ, ◌+◌, ◌-◌, ◌<◌, ◌≤◌, min}
 use Rattle.std.specs.Int.{◌∣◌}
+use Rattle.std.specs.Option.{ForSome}
 use Rattle.order.specs.Laws.{Choice}
 use Rattle.plan.specs.Contents.{Contents, at}
 pub use Rattle.step.specs.Starting.{NobodyStarts, SomebodyStarts, NextStart}
@@ -23,6 +24,7 @@ end_of_clock = 18446744073709551615
 abbrev pub LaterBy : ℕ → ℕ → ℕ → Type 0
 LaterBy units t later = later ≡ min (t + units) end_of_clock
 
--- where the handlers are sorted, they stand in their order under this choice at this time
+-- where the handlers are sorted, if they ever were, they stand in their order under this choice at
+-- this time
 abbrev pub Prepared : Choice → Moment → Type 0
-Prepared D m = IsPrepared D m.time m.priorities
+Prepared D m = ForSome m.priorities (IsPrepared D m.time)

@@ -1,6 +1,6 @@
 -- Who starts at a time, and when somebody starts next.
-use Rattle.std.specs.Prelude.{◌≡◌, ℕ, ◌+◌, ◌-◌, ◌<◌, ◌≤◌, Bool, false, List, length, Decides, slice_index_or}
-use Rattle.std.specs.Int.{◌∣◌}
+use Rattle.std.specs.Prelude.{◌≡◌, ℕ, ◌+◌, ◌-◌, ◌<◌, ◌≤◌, ◌↔◌, Bool, Decides}
+use Rattle.std.specs.Int.{◌∣◌, bit_at}
 use Rattle.terms.specs.declared.handlers.Handler.{Handler}
 use Rattle.plan.specs.Contents.{Contents, count}
 use Rattle.model.specs.Units.{Starts}
@@ -24,10 +24,9 @@ NobodyStarts p t = (i : ℕ) → i < count p → ¬ Starts p t i
 abbrev pub SomebodyStarts : Contents → ℕ → Type 0
 SomebodyStarts p t = ¬ NobodyStarts p t
 
--- the flags say of each place whether the handler there starts at t
-pub record StartsAre (p : Contents) (t : ℕ) (flags : List Bool) : Type 0 where
-  pub long : length flags ≡ 64
-  pub told : (i : ℕ) → i < count p → Decides (slice_index_or flags i false) (Starts p t i)
+-- the word has the bit of each handler that starts at t, by its place, and no other
+pub record StartsAre (p : Contents) (t word : ℕ) : Type 0 where
+  pub bits : (i : ℕ) → bit_at word i ≡ 1 ↔ ((i < count p) × Starts p t i)
 
 -- after t nobody starts before so many units have gone
 abbrev pub Quiet : Contents → ℕ → ℕ → Type 0

@@ -1,13 +1,14 @@
 // Times, and what depends on the time alone.
 ghost use Rattle.std.specs.Prelude.{◌≡◌, ◌-◌, ◌≤◌, Decides, MatchOption};
-ghost use Rattle.std.specs.Option.{ForNone, ForSome};
+ghost use Rattle.std.specs.Option.{ForSome};
 ghost use Rattle.order.specs.Laws.{Choice};
 ghost use Rattle.plan.specs.Contents.{contents, at, Known};
 ghost use Rattle.model.specs.Units.{Starts};
-ghost use Rattle.step.specs.Starting.{NobodyStarts, SomebodyStarts, StartsAre, Quiet, NextStart};
+ghost use Rattle.step.specs.Starting.{SomebodyStarts, StartsAre, Quiet, NextStart};
 
 use crate::moments::finding::find;
-use crate::priorities::Priorities;
+use crate::priorities::{MANY_STATES, Priorities};
+use crate::serving::serve;
 use crate::states::State;
 use order::disciplines::Discipline;
 use plan::plans::Plan;
@@ -21,18 +22,17 @@ mod finding;
 pub struct Moment<'p> {
     pub(crate) plan: &'p Plan,
     pub(crate) time: u64,
-    // Whether a handler starts at this time, by its place; `None` where nobody starts.
-    pub(crate) starters: Option<[bool; 64]>,
+    // The handlers that start at this time: a bit for each, by its place.
+    pub(crate) starters: u64,
     // After this time nobody starts before so many units have gone.
     quiet: u64,
-    priorities: Priorities<'p>,
-    ghost nobody: { ForNone starters (NobodyStarts (contents plan.now) time) },
-    ghost somebody: { ForSome starters (λ flags. SomebodyStarts (contents plan.now) time) },
-    ghost starting: { ForSome starters (λ flags. StartsAre (contents plan.now) time flags) },
+    // Made where there are many states for the first time.
+    priorities: Option<Priorities<'p>>,
+    ghost starting: { StartsAre (contents plan.now) time starters },
     ghost later: { 1 ≤ quiet },
     ghost still: { Quiet (contents plan.now) time quiet },
     ghost next: { NextStart (contents plan.now) time quiet },
-    ghost one_plan: { priorities.plan.now ≡ plan.now },
+    ghost one_plan: { ForSome priorities (λ order. order.plan.now ≡ plan.now) },
 }
 
 impl<'p> Moment<'p> {
@@ -53,7 +53,7 @@ impl<'p> Moment<'p> {
             time: 0,
             starters: found.starters,
             quiet: found.quiet,
-            priorities: Priorities::new(plan),
+            priorities: None,
         }
     }
 
@@ -76,10 +76,7 @@ impl<'p> Moment<'p> {
         ensures calm { Calm (contents self.now.plan.now) self.now.time result }
         ensures next { NextStart (contents self.now.plan.now) self.now.time result }
     {
-        match self.starters {
-            Some(_) => 0,
-            None => self.quiet,
-        }
+        if self.starters == 0 { self.quiet } else { 0 }
     }
 
     /// So many units on. The clock stops at its end.
@@ -97,7 +94,7 @@ impl<'p> Moment<'p> {
             self.quiet = found.quiet;
         } else if gone > 0 {
             self.time = time;
-            self.starters = None;
+            self.starters = 0;
             self.quiet -= gone;
         }
     }
@@ -112,8 +109,7 @@ impl<'p> Moment<'p> {
             × (h ≡ at (contents self.now.plan.now) (number - 1))) }
     {
         let handler = self.plan.handler(number)?;
-        let flags = self.starters.as_ref()?;
-        if flags[number as usize - 1] {
+        if self.starters >> (number - 1) & 1 == 1 {
             Some(handler)
         } else {
             None
@@ -132,14 +128,28 @@ impl<'p> Moment<'p> {
         }
     }
 
+    // Not inlined: else a check of few states would have the stack of what it never makes.
+    #[inline(never)]
+    fn begin_sorting(&mut self)
+        ensures of_plan { self.new.plan.now ≡ self.old.plan.now }
+        ensures clock { self.new.time ≡ self.old.time }
+    {
+        self.priorities = Some(Priorities::new(self.plan));
+    }
+
     /// Makes ready for so many states: with many, the handlers of each core are put in their order.
     pub fn prepare<D: Discipline>(&mut self, d: &D, states: usize)
         ensures of_plan { self.new.plan.now ≡ self.old.plan.now }
         ensures clock { self.new.time ≡ self.old.time }
         ensures prepared { Prepared (D.first d.now) self.new }
     {
+        if states >= MANY_STATES && self.priorities.is_none() {
+            self.begin_sorting();
+        }
         let time = self.time;
-        self.priorities.prepare(d, time, states);
+        if let Some(order) = &mut self.priorities {
+            order.prepare(d, time, states);
+        }
     }
 
     // The state after the unit that begins at this time, once its starts have been made. What was
@@ -152,7 +162,10 @@ impl<'p> Moment<'p> {
         ensures fewer { Below result.left state.left }
         ensures rest { RestSame (contents self.now.plan.now) state result }
     {
-        self.priorities.serve(d, self.time, state)
+        match &self.priorities {
+            Some(order) => order.serve(d, self.time, state),
+            None => serve(self.plan, d, self.time, state),
+        }
     }
 
     /// The state that follows where nobody starts, the only one; `None` where somebody starts.
@@ -162,9 +175,9 @@ impl<'p> Moment<'p> {
             (SomebodyStarts (contents self.now.plan.now) self.now.time)
             (OnlySuccessor (contents self.now.plan.now) (D.first d.now) self.now.time state) }
     {
-        match self.starters {
-            Some(_) => None,
-            None => Some(self.serve(d, state)),
+        if self.starters != 0 {
+            return None;
         }
+        Some(self.serve(d, state))
     }
 }

@@ -1,8 +1,7 @@
 // What depends on the time alone, found in one pass over the handlers.
-ghost use Rattle.std.specs.Prelude.{◌≡◌, ◌≤◌};
-ghost use Rattle.std.specs.Option.{ForNone, ForSome};
+ghost use Rattle.std.specs.Prelude.{◌≤◌};
 ghost use Rattle.plan.specs.Contents.{contents};
-ghost use Rattle.step.specs.Starting.{TurnAt, NobodyStarts, SomebodyStarts, StartsAre, Quiet, NextStart};
+ghost use Rattle.step.specs.Starting.{TurnAt, StartsAre, Quiet, NextStart};
 
 use plan::plans::Plan;
 use terms::handlers::Handler;
@@ -37,33 +36,28 @@ fn turn_at(handler: Handler, t: u64) -> Turn
 // Who starts at a time, and after how many units somebody starts next.
 #[derive(Clone, Copy)]
 pub(crate) struct Found {
-    pub(crate) starters: Option<[bool; 64]>,
+    // The handlers that start: a bit for each, by its place.
+    pub(crate) starters: u64,
     pub(crate) quiet: u64,
 }
 
 // What is found of this time.
 pub(crate) fn find(plan: &Plan, time: u64) -> Found
-    ensures nobody { ForNone result.starters (NobodyStarts (contents plan.now) time) }
-    ensures somebody { ForSome result.starters
-        (λ flags. SomebodyStarts (contents plan.now) time) }
-    ensures starting { ForSome result.starters (λ flags. StartsAre (contents plan.now) time flags) }
+    ensures starting { StartsAre (contents plan.now) time result.starters }
     ensures later { 1 ≤ result.quiet }
     ensures still { Quiet (contents plan.now) time result.quiet }
     ensures next { NextStart (contents plan.now) time result.quiet }
 {
-    let mut flags = [false; 64];
-    let mut somebody = false;
+    let mut starters = 0;
     let mut quiet = u64::MAX;
     for place in 0..plan.count() {
         if let Some(handler) = plan.handler(place + 1) {
             let turn = turn_at(handler, time);
-            flags[place as usize] = turn.begins;
-            somebody |= turn.begins;
+            if turn.begins {
+                starters |= 1 << place;
+            }
             quiet = quiet.min(turn.ahead);
         }
     }
-    Found {
-        starters: somebody.then_some(flags),
-        quiet,
-    }
+    Found { starters, quiet }
 }

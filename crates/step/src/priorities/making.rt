@@ -39,15 +39,15 @@ fn core_at(plan: &Plan, place: u8) -> u8
     plan.handler(place + 1).map_or(0, |handler| handler.core)
 }
 
-// The places of the handlers that are joined before the one at the place.
-fn joined_before(plan: &Plan, place: u8) -> ArrayVec<u8, 64>
+// The handlers that are joined before the one at the place: a bit for each, by its place.
+fn joined_before(plan: &Plan, place: u8) -> u64
     requires { place < 64 }
-    ensures { JoinedBefore (contents plan.now) place result.items }
+    ensures { JoinedBefore (contents plan.now) place result }
 {
-    let mut places = ArrayVec::new();
+    let mut places = 0;
     for other in 0..plan.count() {
         if plan.joined(other + 1, place + 1) {
-            places.push(other);
+            places |= 1 << other;
         }
     }
     places
@@ -75,7 +75,7 @@ impl<'p> Priorities<'p> {
         let before = array::from_fn(
             |i|
                 requires { i < 64 }
-                ensures { JoinedBefore (contents plan.entry.now) i result.items }
+                ensures { JoinedBefore (contents plan.entry.now) i result }
             { joined_before(plan, i as u8) },
         );
         Priorities {

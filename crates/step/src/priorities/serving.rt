@@ -1,9 +1,9 @@
 // Serving in an order: on each core the first that is ready loses one unit.
-ghost use Rattle.std.specs.Prelude.{◌≡◌, ℕ, ◌<◌, length, Decides, slice_index};
+ghost use Rattle.std.specs.Prelude.{◌≡◌, ◌<◌, length, Decides};
 ghost use Rattle.plan.specs.Contents.{contents, count};
 ghost use Rattle.model.specs.Units.{Ready, Served};
 ghost use Rattle.step.specs.Memory.{times, RestSame};
-ghost use Rattle.step.specs.Orders.{LostBy};
+ghost use Rattle.step.specs.Orders.{AllDone, LostBy};
 ghost use Rattle.step.specs.Rows.{Below};
 ghost use Rattle.step.specs.Prepared.{IsPrepared};
 
@@ -12,16 +12,17 @@ use crate::serving::serve;
 use crate::states::State;
 use order::disciplines::Discipline;
 
-// Whether none of the handlers at these places has time left.
-fn all_done(state: &State, places: &[u8]) -> bool
-    requires { (k : ℕ) → k < length places.now → slice_index places.now k < 64 }
-    ensures { Decides result ((k : ℕ) → k < length places.now
-        → slice_index state.now.left (slice_index places.now k) ≡ 0) }
+// Whether none of the handlers at these places, a bit for each, has time left.
+fn all_done(state: &State, places: u64) -> bool
+    ensures { Decides result (AllDone state.now.left places) }
 {
-    for place in places {
-        if state.left[*place as usize] > 0 {
+    let mut rest = places;
+    while rest != 0 {
+        let place = rest.trailing_zeros();
+        if state.left[place as usize] > 0 {
             return false;
         }
+        rest &= !(1 << place);
     }
     true
 }
@@ -34,7 +35,7 @@ impl Priorities<'_> {
             (times (contents self.now.plan.now) state.now) place) }
     {
         let before = &self.before;
-        state.left[place as usize] > 0 && all_done(state, before[place as usize].as_slice())
+        state.left[place as usize] > 0 && all_done(state, before[place as usize])
     }
 
     // The state in which the first of each core that is ready has lost one unit.

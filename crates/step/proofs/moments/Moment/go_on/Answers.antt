@@ -1,6 +1,7 @@
 use Rattle.std.proofs.Common.{◌≡◌, ℕ, ◌+◌, ◌-◌, ◌<◌, subst, arith}
 use Rattle.plan.specs.Contents.{Contents, contents}
 use Rattle.step.specs.Starting.{NobodyStarts, SomebodyStarts, Quiet, NextStart}
+use Rattle.step.proofs.Finding.{nobody_word}
 use Rattle.step.proofs.moments.Moment.go_on.Goals as goal
 
 -- so long as nobody starts
@@ -16,17 +17,17 @@ module _ (p : Contents) (t later quiet : ℕ) (still : Quiet p t quiet) (after :
   next_later : NextStart p t quiet → NextStart p later (quiet - (later - t))
   next_later next some = let e : t + quiet ≡ later + (quiet - (later - t)) = omega arith in subst (SomebodyStarts p) e (next some)
 
-pub invariant_of-self-then-gone-gt0-clause-nobody : goal.invariant_of-self-then-gone-gt0-clause-nobody
-invariant_of-self-then-gone-gt0-clause-nobody c _ =
-    nobody_later (contents c.args.self.now.plan.now) c.args.self.now.time c.saturating_add-time.result c.args.self.now.quiet c.args.self.now.still
-    (omega arith) (omega arith)
-
-pub invariant_of-self-then-gone-gt0-clause-still : goal.invariant_of-self-then-gone-gt0-clause-still
-invariant_of-self-then-gone-gt0-clause-still c =
-    still_later (contents c.args.self.now.plan.now) c.args.self.now.time c.saturating_add-time.result c.args.self.now.quiet c.args.self.now.still
-    (omega arith) (omega arith)
-
-pub invariant_of-self-then-gone-gt0-clause-next : goal.invariant_of-self-then-gone-gt0-clause-next
-invariant_of-self-then-gone-gt0-clause-next c =
-    next_later (contents c.args.self.now.plan.now) c.args.self.now.time c.saturating_add-time.result c.args.self.now.quiet c.args.self.now.still
-    (omega arith) (omega arith) c.args.self.now.next
+pub invariant_of-self-then-gone-gt0 : goal.invariant_of-self-then-gone-gt0
+invariant_of-self-then-gone-gt0 c =
+    let p = contents c.args.self.now.plan.now in
+    let t = c.args.self.now.time in
+    let later = c.saturating_add-time.result in
+    let quiet = c.args.self.now.quiet in
+    let still = c.args.self.now.still in
+    record {
+      starting = nobody_word (nobody_later p t later quiet still (omega arith) (omega arith));
+      later = omega arith;
+      still = still_later p t later quiet still (omega arith) (omega arith);
+      next = next_later p t later quiet still (omega arith) (omega arith) c.args.self.now.next;
+      one_plan = c.args.self.now.one_plan;
+    }

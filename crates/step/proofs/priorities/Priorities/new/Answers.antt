@@ -21,5 +21,5 @@ invariant_of-result-clause-on_cores c = λ i l.
     made_each (λ f. f.0.now ≡ c.args.plan.now) (λ i y. i < count (contents c.args.plan.now) → y ≡ (at (contents c.args.plan.now) i).core) (λ f k y q kept call. search rules) _ c.from_fn-cores.result 64 (search rules) c.from_fn-cores.ensures.items i 0 (omega (arith, few, l)) l
 
 pub invariant_of-result-clause-joined : goal.invariant_of-result-clause-joined
-invariant_of-result-clause-joined c = λ i d l.
-    made_each (λ f. f.0.now ≡ c.args.plan.now) (λ i y. JoinedBefore (contents c.args.plan.now) i y.items) (λ f k y q kept call. search rules) _ c.from_fn-before.result 64 (search rules) c.from_fn-before.ensures.items i d l
+invariant_of-result-clause-joined c = λ i l.
+    made_each (λ f. f.0.now ≡ c.args.plan.now) (JoinedBefore (contents c.args.plan.now)) (λ f k y q kept call. search rules) _ c.from_fn-before.result 64 (search rules) c.from_fn-before.ensures.items i 0 l

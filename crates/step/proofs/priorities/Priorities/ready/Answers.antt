@@ -11,6 +11,5 @@ returns-then-state-place-gt0 c =
     let ok = sound c.args.self.now.plan.now in
     let few = ok.few in
     let inside : c.args.place < 64 = omega (arith, few) in
-    let joined = c.args.self.now.joined c.args.place c.index-before-place.result inside in
-    joined_told p ok c.args.state.now.left c.args.place c.as_slice.result.now (subst (JoinedBefore p c.args.place) (sym c.as_slice.ensures.value) joined) c.requires
+    joined_told p ok c.args.state.now.left c.args.place _ (c.args.self.now.joined c.args.place inside) c.requires
     (omega arith) c.all_done.result c.all_done.ensures

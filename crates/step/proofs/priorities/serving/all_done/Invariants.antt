@@ -1,5 +1,12 @@
-use Rattle.std.proofs.Common.{◌≡◌, ℕ, ◌<◌, get_or}
+use Rattle.std.proofs.Common.{◌≡◌, ℕ, ◌⊎◌, get_or}
+use Rattle.std.specs.Int.{bit_at}
 use Rattle.step.proofs.priorities.serving.all_done.Given as goal
 
-abbrev pub invariant-loop-place : goal.invariant-loop-place
-invariant-loop-place l = (k : ℕ) → k < l.place-index → get_or l.state.left (get_or l.places k 0) 0 ≡ 0
+abbrev pub invariant-loop-rest : goal.invariant-loop-rest
+invariant-loop-rest l = record {
+  some : (a : ℕ) → bit_at l.rest a ≡ 1 → bit_at l.places a ≡ 1;
+  others : (a : ℕ) → bit_at l.places a ≡ 1 → (bit_at l.rest a ≡ 1) ⊎ (get_or l.state.left a 0 ≡ 0);
+}
+
+abbrev pub decreases-loop-rest : goal.decreases-loop-rest
+decreases-loop-rest l = l.rest
