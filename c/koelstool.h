@@ -43,7 +43,7 @@ enum {
  *
  * Any bytes may be handed over, of any length: they are only read. What the record held before does not matter.
  * Neither pointer may be null, also where a length is 0, and the record may not overlap the bytes. The tables are on
- * the stack: a call has used 93 KiB of it, by measure, so have 128 KiB.
+ * the stack: a call has used 68 KiB of it, by measure, so have 128 KiB.
  *
  * A call ends for all bytes, but it may take long: it goes through the units of the settling time and of one or more
  * rounds, at 0.1 to 1.1 microseconds a unit with one state, and 14 in the worst plan found, by measure on an idle
