@@ -4,6 +4,7 @@
 ghost use Rattle.std.specs.Prelude.{◌≡◌, ◌+◌, [], MatchResult};
 ghost use Rattle.plan.specs.Contents.{contents};
 ghost use Rattle.model.specs.Runs.{StateAt};
+ghost use Rattle.model.specs.Theorems.{BeginningsGoOn, UnitsRepeat};
 ghost use Rattle.model.specs.Verdicts.{Outnumber};
 ghost use Rattle.step.specs.Moments.{Prepared};
 ghost use Rattle.fronts.specs.Fronts.{StepsTo, FollowsOne, Joins, Front};
@@ -100,6 +101,8 @@ pub fn advance<D: Discipline, W: Table<Item = State>>(
     ensures clock { moment.new.time ≡ moment.old.time }
     ensures same_room { W.room back.new ≡ W.room back.old }
     ensures frame { (s : W) × W.emptied back.old s × W.extended s back.new }
+    ensures goes_on { BeginningsGoOn }
+    ensures repeats { UnitsRepeat }
 {
     back.clear();
     moment.prepare(d, front.rows().len());

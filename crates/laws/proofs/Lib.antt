@@ -2,8 +2,6 @@ pub mod Alikeness
 pub mod Answering
 pub mod Calls
 pub mod Circles
-pub mod Computing
-pub mod Example
 pub mod Findings
 pub mod HandlersHeld
 pub mod LastCores

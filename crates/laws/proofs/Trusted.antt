@@ -8,7 +8,6 @@ use Rattle.laws.proofs.Calls.{calls_fit, registers_count}
 use Rattle.laws.proofs.Questions.{questions_decide}
 use Rattle.laws.proofs.Answering.{every_call_answers}
 use Rattle.laws.proofs.Alikeness.{alike_checks_answer_alike}
-use Rattle.laws.proofs.Example.{some_history_has_each_kind}
 
 pub verdicts_are_true : VerdictsAreTrue
 verdicts_are_true = record {
@@ -26,5 +25,4 @@ checks_can_be_trusted = record {
   every_call_answers = every_call_answers;
   registers_count = registers_count;
   alike_checks_answer_alike = alike_checks_answer_alike;
-  some_history_has_each_kind = some_history_has_each_kind;
 }

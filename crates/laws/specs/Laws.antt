@@ -6,7 +6,6 @@ use Rattle.terms.specs.declared.refusals.Refusal.{Refusal}
 use Rattle.plan.specs.Contents.{Contents}
 use Rattle.plan.specs.Histories.{registered}
 use Rattle.model.specs.declared.verdicts.Verdict.{Verdict}
-use Rattle.laws.specs.Example.{asks, answers}
 use Rattle.laws.specs.Checks.{Tables, Checks}
 use Rattle.laws.specs.Outcomes.{VerdictHolds}
 use Rattle.laws.specs.Histories.{Event, changes, checks, Makes, After, History, Among, Question, question, Lawful, answer, taken, Alike}
@@ -53,12 +52,6 @@ AlikeChecksAnswerAlike =
     → Checks h.left D was r is → Checks g.left D other s left
     → length was.front ≡ length other.front → length was.back ≡ length other.back → length was.marks ≡ length other.marks → r ≡ s)
 
--- ---- none of this is empty
-
--- there is a history with each kind of answer: it asks and answers this
-abbrev pub SomeHistoryHasEachKind : Type 0
-SomeHistoryHasEachKind = (h : History) × (map question h.events ≡ asks) × (map answer h.events ≡ answers)
-
 -- ---- all of it
 
 pub record ChecksCanBeTrusted : Type 0 where
@@ -68,4 +61,3 @@ pub record ChecksCanBeTrusted : Type 0 where
   pub every_call_answers : EveryCallAnswers
   pub registers_count : RegistersCount
   pub alike_checks_answer_alike : AlikeChecksAnswerAlike
-  pub some_history_has_each_kind : SomeHistoryHasEachKind

@@ -2,6 +2,7 @@
 ghost use Rattle.std.specs.Prelude.{◌≡◌};
 ghost use Rattle.samples.specs.Samples.{on, before, row, long_work, chained, two_periods, two_marks, late_first, deadline_on_two, samples, SamplesKnown, LateFirstLeft};
 ghost use Rattle.model.specs.declared.verdicts.Verdict.TheVariants.{Kept, Missed, RowsShort};
+ghost use Rattle.traces.specs.Agreement.{ArticleAgrees, ArticleAgreesByCodes, LetterDiffers};
 
 use crate::{Call, Sample};
 use banks::codes::Code;
@@ -148,6 +149,9 @@ pub fn samples() -> [Sample; 12]
     ensures rows { result ≡ samples }
     ensures known { SamplesKnown }
     ensures left { LateFirstLeft }
+    ensures article { ArticleAgrees }
+    ensures article_codes { ArticleAgreesByCodes }
+    ensures letter { LetterDiffers }
 {
     [
         row([None; 8], FIXED, 128, 128, kept(1, 1)),

@@ -1,1 +1,3 @@
+pub mod Computing
+pub mod Example
 pub mod Mixing

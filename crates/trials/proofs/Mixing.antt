@@ -14,10 +14,10 @@ use Rattle.laws.specs.Checks.{Tables, Checks}
 use Rattle.laws.specs.Histories.{Event, checks, new, then, History}
 use Rattle.laws.specs.Histories.{Question, question, checking, answer, finds}
 use Rattle.laws.specs.Histories.{Answer as Reply}
-use Rattle.laws.specs.Example.{fixed, asks, answers}
+use Rattle.trials.specs.Example.{fixed, asks, answers}
 use Rattle.laws.proofs.Findings.{one_choice}
 use Rattle.laws.proofs.Questions.{questions_decide}
-use Rattle.laws.proofs.Example.{some_history_has_each_kind}
+use Rattle.trials.proofs.Example.{some_history_has_each_kind}
 use Rattle.trials.specs.declared.mixture.Call.{Call}
 use Rattle.trials.specs.declared.mixture.Answer.{Answer}
 use Rattle.trials.specs.Mixtures.{asked, said, Answered, AllAnswered}

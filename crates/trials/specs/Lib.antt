@@ -1,1 +1,2 @@
+pub mod Example
 pub mod Mixtures

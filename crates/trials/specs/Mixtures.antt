@@ -5,7 +5,7 @@ use Rattle.laws.specs.Histories.{Event, Makes, After, question, answer}
 use Rattle.laws.specs.Histories.{Question, registering, joining, seating, checking}
 use Rattle.laws.specs.Histories.{numbers, accepts, finds}
 use Rattle.laws.specs.Histories.{Answer as Reply}
-use Rattle.laws.specs.Example.{fixed}
+use Rattle.trials.specs.Example.{fixed}
 use Rattle.trials.specs.declared.mixture.Call.{Call}
 use Rattle.trials.specs.declared.mixture.Call.TheVariants.{Register, Join, Reseat, Check}
 use Rattle.trials.specs.declared.mixture.Answer.{Answer}

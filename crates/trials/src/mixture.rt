@@ -1,7 +1,7 @@
 // Calls of every kind on one plan, refusals among them, made one after another.
 ghost use Rattle.std.specs.Prelude.{◌≡◌, map, All};
 ghost use Rattle.plan.specs.Contents.{Contents, contents};
-ghost use Rattle.laws.specs.Example.{asks, answers};
+ghost use Rattle.trials.specs.Example.{asks, answers, SomeHistoryHasEachKind};
 ghost use Rattle.trials.specs.declared.mixture.Call.TheVariants.{Check};
 ghost use Rattle.trials.specs.Mixtures.{asked, said, on_core_one, check_with};
 ghost use Rattle.trials.specs.Mixtures.{Fits, Answered, AllAnswered};
@@ -130,7 +130,8 @@ pub fn calls() -> [Call; 12]
 
 /// Makes the calls of the mixture, one after another on a new plan, and hands out what they answer.
 pub fn make_calls() -> [Answer; 12]
-    ensures { map said result ≡ answers }
+    ensures as_listed { map said result ≡ answers }
+    ensures each_kind { SomeHistoryHasEachKind }
 {
     make_all(&calls())
 }

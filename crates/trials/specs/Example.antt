@@ -1,5 +1,5 @@
 -- A mixture of calls with each kind of answer.
-use Rattle.std.specs.Prelude.{List, [], ◌∷◌, Ok, Err}
+use Rattle.std.specs.Prelude.{◌≡◌, List, [], ◌∷◌, map, Ok, Err}
 use Rattle.banks.specs.Codes.{coded}
 use Rattle.order.specs.Laws.{Choice}
 use Rattle.terms.specs.declared.handlers.Handler.{Handler}
@@ -7,7 +7,7 @@ use Rattle.terms.specs.declared.refusals.Refusal.TheVariants.{NoPeriod, NoSuchHa
 use Rattle.model.specs.declared.verdicts.Rows.TheVariants.{Working, Marks}
 use Rattle.model.specs.declared.verdicts.Verdict.TheVariants.{Kept, Missed, RowsShort}
 use Rattle.samples.specs.Samples.{all_fixed}
-use Rattle.laws.specs.Histories.{Question, registering, joining, seating, checking, Answer, numbers, accepts, finds}
+use Rattle.laws.specs.Histories.{History, Question, question, registering, joining, seating, checking, Answer, answer, numbers, accepts, finds}
 
 -- fixed priority on every core
 abbrev pub fixed : Choice
@@ -56,3 +56,7 @@ answers =
     ∷ accepts (Ok tt)
     ∷ finds (Ok (Missed 2 2))
     ∷ []
+
+-- there is a history with each kind of answer: it asks and answers this
+abbrev pub SomeHistoryHasEachKind : Type 0
+SomeHistoryHasEachKind = (h : History) × (map question h.events ≡ asks) × (map answer h.events ≡ answers)

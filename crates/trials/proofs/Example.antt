@@ -15,10 +15,10 @@ use Rattle.samples.specs.Samples.{all_fixed}
 use Rattle.samples.proofs.Sound.{chain_onward}
 use Rattle.laws.specs.Checks.{Tables, Checks}
 use Rattle.laws.specs.Histories.{Event, changes, checks, Makes, After, new, then, question, answer}
-use Rattle.laws.specs.Example.{fixed, short, long, never, asks, answers}
-use Rattle.laws.specs.Laws.{SomeHistoryHasEachKind}
+use Rattle.trials.specs.Example.{fixed, short, long, never, asks, answers}
+use Rattle.trials.specs.Example.{SomeHistoryHasEachKind}
 use Rattle.laws.proofs.Answering.{tables, check_refused}
-use Rattle.laws.proofs.Computing.{lent, found}
+use Rattle.trials.proofs.Computing.{lent, found}
 use Rattle.laws.proofs.Sounds.{makes_sound}
 use Rattle.plan.proofs.Tested.{neither, taken_registers, empty_sound}
 
