@@ -1,18 +1,18 @@
 -- A check of a sample whose verdict is known finds that verdict.
 use Rattle.std.proofs.Common.{◌≡◌, List, Ok, Result, sym, ap, ◌∙◌, subst, inl, inr, arith}
 use Rattle.std.proofs.lemmas.List.{length-take-le}
-use Rattle.order.specs.Laws.{Choice}
-use Rattle.terms.specs.declared.refusals.Refusal.{Refusal}
-use Rattle.terms.specs.declared.refusals.Refusal.TheVariants.{UnfitTables}
-use Rattle.banks.specs.Codes.{coded}
+use Rattle.policy.specs.Laws.{Choice}
+use Rattle.plan.specs.declared.refusals.Refusal.{Refusal}
+use Rattle.plan.specs.declared.refusals.Refusal.TheVariants.{UnfitTables}
+use Rattle.policy.specs.Codes.{coded}
 use Rattle.plan.specs.Contents.{Contents}
 use Rattle.plan.specs.Calls.{refuses}
 use Rattle.model.specs.declared.verdicts.Verdict.{Verdict}
 use Rattle.model.specs.declared.verdicts.Verdict.TheVariants.{Kept, Missed, RowsShort}
-use Rattle.step.specs.declared.states.State.{State}
+use Rattle.model.specs.declared.states.State.{State}
 use Rattle.samples.specs.declared.Sample.{Sample}
 use Rattle.samples.specs.Plans.{Known, plan_of}
-use Rattle.laws.specs.Checks.{Tables, Unfit, Judges, Checks, MarksAfter, TablesAfter, KeptRows}
+use Rattle.model.specs.Checks.{Tables, Unfit, Judges, Checks, MarksAfter, TablesAfter, KeptRows}
 use Rattle.account.specs.Accounts.{SizedFor, counted, FindsKnown}
 
 counted_marks : (p : Contents) (D : Choice) (v : Verdict) (was is : List State) → MarksAfter p D v was is → KeptRows p D v (counted v is)

@@ -5,9 +5,9 @@ use Rattle.std.proofs.lemmas.Bool.{true≢false}
 use Rattle.std.proofs.lemmas.List.Elements.{Contains-get_or}
 use Rattle.plan.specs.Contents.{Contents, Known}
 use Rattle.model.specs.Runs.{Late}
-use Rattle.step.specs.declared.states.State.{State}
-use Rattle.step.specs.Memory.{times}
-use Rattle.fronts.specs.Fronts.{idle, LateInOne}
+use Rattle.model.specs.declared.states.State.{State}
+use Rattle.model.specs.Memory.{times}
+use Rattle.checker.specs.Fronts.{idle, LateInOne}
 
 module _ (p : Contents) (t : ℕ) (states : List State) where
   -- the handler of number n, in a state

@@ -1,14 +1,14 @@
 -- What the account of a sample rests on.
 use Rattle.std.specs.Prelude.{◌≡◌, ◌≤◌, List, [], length, take, Contains as Has, Ok, Result}
-use Rattle.banks.specs.Codes.{coded}
-use Rattle.terms.specs.declared.refusals.Refusal.{Refusal}
+use Rattle.policy.specs.Codes.{coded}
+use Rattle.plan.specs.declared.refusals.Refusal.{Refusal}
 use Rattle.plan.specs.Contents.{contents}
 use Rattle.model.specs.declared.verdicts.Verdict.{Verdict}
 use Rattle.model.specs.declared.verdicts.Verdict.TheVariants.{Kept, Missed, RowsShort}
-use Rattle.step.specs.declared.states.State.{State}
+use Rattle.model.specs.declared.states.State.{State}
 use Rattle.samples.specs.declared.Sample.{Sample}
 use Rattle.samples.specs.Plans.{Known, plan_of}
-use Rattle.laws.specs.Checks.{Tables, KeptRows, most_rows}
+use Rattle.model.specs.Checks.{Tables, KeptRows, most_rows}
 use Rattle.account.specs.declared.checking.Checked.{Checked}
 
 -- the tables have as many rows as the sample names, and no more than a check takes

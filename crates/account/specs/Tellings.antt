@@ -1,11 +1,11 @@
 -- What is told of a time, and of a core.
 use Rattle.std.specs.Prelude.{◌≡◌, ◌≢◌, ℕ, ◌+◌, ◌-◌, List, length, Some, None, Option}
 use Rattle.gather.specs.Growth.{Grown, Overfull}
-use Rattle.order.specs.declared.cores.Core.{Core}
+use Rattle.policy.specs.declared.cores.Core.{Core}
 use Rattle.plan.specs.Contents.{Contents, at, Known}
 use Rattle.model.specs.Runs.{mark}
-use Rattle.step.specs.declared.states.State.{State}
-use Rattle.fronts.specs.Fronts.{LateInOne, Lowest}
+use Rattle.model.specs.declared.states.State.{State}
+use Rattle.checker.specs.Fronts.{LateInOne, Lowest}
 use Rattle.account.specs.declared.moments.Event.{Event}
 use Rattle.account.specs.declared.moments.Event.TheVariants.{Nothing, Late, NewMarks}
 use Rattle.account.specs.declared.moments.Event.TheVariants.{NoRoomForMarks}

@@ -2,20 +2,20 @@
 ghost use Rattle.std.specs.Prelude.{◌≡◌, IfOk, IsOk, MatchResult};
 ghost use Rattle.plan.specs.Contents.{contents};
 ghost use Rattle.samples.specs.Plans.{Known, plan_of};
-ghost use Rattle.laws.specs.Checks.{tables};
+ghost use Rattle.model.specs.Checks.{tables};
 ghost use Rattle.account.specs.declared.checking.Trouble.TheVariants.{Refused, Memory};
 ghost use Rattle.account.specs.Accounts.{SizedFor, FindsKnown, AsKnown, counted};
 
 use crate::moments::Telling;
-use banks::codes::code_bank;
-use checks::{Observed, observe};
+use checker::{Observed, observe};
+use model::states::State;
 use model::verdicts::Verdict;
 use plan::plans::Plan;
+use plan::refusals::Refusal;
+use policy::codes::code_bank;
 use samples::Sample;
 use std::alloc::{AllocError, Global};
 use std::{io, mem};
-use step::states::State;
-use terms::refusals::Refusal;
 use thiserror::Error;
 
 /// Why a sample is not checked.

@@ -15,7 +15,7 @@ use crate::checking::{Checked, made};
 use crate::mixing::show_mixture;
 use crate::wording::{Meaning, Said, show_marks, show_plan, show_sizes};
 use anyhow::bail;
-use listing::finish;
+use plantext::listing::finish;
 use samples::{Sample, samples};
 use std::io;
 use std::process::ExitCode;

@@ -1,7 +1,7 @@
 // The mixture of calls, in words. Nothing here decides anything, so no function has a contract.
 use crate::wording::{Many, Numbers, Said};
+use samples::mixture::{Answer, Call, calls, make_calls};
 use std::{fmt, io};
-use trials::mixture::{Answer, Call, calls, make_calls};
 
 // What a call asks.
 #[derive(Clone, Copy)]

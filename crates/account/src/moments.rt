@@ -1,20 +1,20 @@
 // What a check sees at each time up to that of its verdict.
 ghost use Rattle.std.specs.Prelude.{◌-◌, Decides};
 ghost use Rattle.plan.specs.Contents.{contents, Known};
-ghost use Rattle.fronts.specs.Fronts.{LateInOne, Lowest};
+ghost use Rattle.checker.specs.Fronts.{LateInOne, Lowest};
 ghost use Rattle.account.specs.Tellings.{IsMarkTime, Marks, Tells};
 
 use crate::wording::Many;
-use checks::observing::Observer;
+use checker::lateness::late;
+use checker::moments;
+use checker::observing::Observer;
 use gather::lent::Lent;
 use gather::tables::{Inserted, Table};
+use model::states::State;
 use model::verdicts::{Rows, Verdict};
 use plan::plans::Plan;
+use plan::refusals::Refusal;
 use std::{fmt, io, mem};
-use step::lateness::late;
-use step::moments;
-use step::states::State;
-use terms::refusals::Refusal;
 
 // What happens at a time: somebody is late, or else, at a mark time, some of the states are new marks.
 #[derive(Clone, Copy)]

@@ -1,17 +1,17 @@
 // Plans and verdicts in words. What only prints, or has words for a value, has no contract.
 ghost use Rattle.std.specs.Prelude.{◌≡◌, ℕ, Decides};
-ghost use Rattle.banks.specs.declared.codes.Code.TheVariants.{FixedPriority};
+ghost use Rattle.policy.specs.declared.codes.Code.TheVariants.{FixedPriority};
 ghost use Rattle.plan.specs.Contents.{contents};
 ghost use Rattle.account.specs.Tellings.{IsOn};
 
-use banks::codes::Code;
+use model::states::State;
 use model::verdicts::{Rows, Verdict};
-use order::cores::Core;
+use plan::handlers::Handler;
 use plan::plans::Plan;
+use policy::codes::Code;
+use policy::cores::Core;
 use samples::Sample;
 use std::{fmt, io};
-use step::states::State;
-use terms::handlers::Handler;
 
 // So many things of this name.
 #[derive(Clone, Copy)]

@@ -2,7 +2,7 @@
 // the line of each.
 #![tactic(auto)]
 
-use answers::lines::line;
+use report::lines::line;
 use std::io;
 use std::io::Read;
 

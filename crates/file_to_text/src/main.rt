@@ -1,11 +1,11 @@
 // Reads the file of a plan, and prints the plan's text form.
 #![tactic(auto)]
 
-use answers::lines::read_input;
-use listing::finish;
+use plantext::listing::finish;
+use plantext::texts::to_text;
+use report::lines::read_input;
 use std::io;
 use std::process::ExitCode;
-use texts::to_text;
 
 fn run(rt: &HostRuntime) -> anyhow::Result<()> {
     let bytes = read_input(rt.reader())?;

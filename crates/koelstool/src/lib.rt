@@ -2,9 +2,9 @@
 #![tactic(auto)]
 
 ghost use Rattle.std.specs.Prelude.{◌≡◌, Bool};
-ghost use Rattle.answers.specs.Records.{Fills, as_number};
+ghost use Rattle.report.specs.Records.{Fills, as_number};
 
-use answers::records::fill;
+use report::records::fill;
 
 /// Fills the record with what is said of the bytes, and answers 1; a record of another length than 17 bytes is left as
 /// it is, and the answer is 0. Nothing is allocated.

@@ -3,11 +3,11 @@ use Rattle.std.proofs.Common.{◌≡◌, ℕ, suc, ◌+◌, ◌-◌, ◌<◌, �
 use Prim.Native.Nat.{◌∣◌}
 use native.Mathlib.Nat.{suc_inj}
 use denote.Struct.Record.{values_one}
-use Rattle.order.specs.declared.cores.Core.{Core}
-use Rattle.order.specs.declared.candidates.Candidate.{Candidate}
-use Rattle.order.specs.contracts.cores.Core as core_type
-use Rattle.order.specs.contracts.candidates.Candidate as candidate_type
-use Rattle.order.specs.Laws.{Choice, IsLawfulChoice, Apart}
+use Rattle.policy.specs.declared.cores.Core.{Core}
+use Rattle.policy.specs.declared.candidates.Candidate.{Candidate}
+use Rattle.policy.specs.contracts.cores.Core as core_type
+use Rattle.policy.specs.contracts.candidates.Candidate as candidate_type
+use Rattle.policy.specs.Laws.{Choice, IsLawfulChoice, Apart}
 use Rattle.plan.specs.Contents.{Contents, Sound, count, at, StandsFor}
 use Rattle.model.specs.Units.{GoesBefore}
 

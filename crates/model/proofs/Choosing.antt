@@ -1,7 +1,7 @@
 -- Different combinations of chosen times step to different states: who runs does not depend on how long the chosen times are.
 use Rattle.std.proofs.Common.{◌≡◌, ℕ, ◌<◌, ◌≤◌, sym, ◌∙◌, subst, arith, ext_get_or}
 use native.Mathlib.Decide.{dec_lt}
-use Rattle.order.specs.Laws.{Choice}
+use Rattle.policy.specs.Laws.{Choice}
 use Rattle.plan.specs.Contents.{Contents, Sound, count, at}
 use Rattle.model.specs.Units.{State, left, Starts, Started, Ready, Running}
 use Rattle.model.specs.Theorems.{ChoicesTell}

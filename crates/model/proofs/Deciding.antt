@@ -3,7 +3,7 @@ use Rattle.std.proofs.Common.{◌≡◌, ℕ, zero, suc, ◌-◌, ◌<◌, true,
 use mathlib.Core.Bool.{Bool-discrete}
 use mathlib.Core.Logic.Dec
 use native.Mathlib.Decide.{dec_le, dec_lt, dec_dvd, ℕ_discrete}
-use Rattle.order.specs.Laws.{Choice}
+use Rattle.policy.specs.Laws.{Choice}
 use Rattle.plan.specs.Contents.{Contents, Sound, count, at}
 use Rattle.model.specs.Units.{State, left, Starts, Ready, GoesBefore, Running}
 use Rattle.model.proofs.Asking.{before_decided}

@@ -5,7 +5,7 @@ use native.Mathlib.Decide.{dec_le, dec_lt, dec_dvd, ℕ_discrete}
 use Rattle.std.specs.List.{range_with_len, Contains as Has}
 use Rattle.gather.specs.Levels.{Once}
 use Rattle.gather.proofs.Counting.{has_cases, once_fits}
-use Rattle.order.specs.Laws.{Choice}
+use Rattle.policy.specs.Laws.{Choice}
 use Rattle.plan.specs.Contents.{Contents, Sound, count, at}
 use Rattle.model.specs.declared.verdicts.Rows.TheVariants.{Working, Marks}
 use Rattle.model.specs.declared.verdicts.Verdict.{Verdict}

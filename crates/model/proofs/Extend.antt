@@ -2,7 +2,7 @@
 use Rattle.std.proofs.Common.{◌≡◌, ℕ, zero, suc, pred, ◌+◌, ◌-◌, ◌<◌, ◌≤◌, sym, refl, ap, ◌∙◌, subst, subst₂, zero-add, arith, ext_get_or}
 use mathlib.Core.Logic.{ite, if_pos, if_neg}
 use native.Mathlib.Decide.{dec_le, dec_lt, ℕ_discrete}
-use Rattle.order.specs.Laws.{Choice}
+use Rattle.policy.specs.Laws.{Choice}
 use Rattle.plan.specs.Contents.{Contents, Sound, count, at}
 use Rattle.model.specs.Units.{State, left, zeros, Started, Running, Served, Step}
 use Rattle.model.specs.Runs.{Run, StateAt}

@@ -3,7 +3,7 @@ use Rattle.std.proofs.Common.{◌≡◌, ℕ, zero, suc, ◌+◌, ◌-◌, ◌*�
 use Prim.Native.Nat.{◌∣◌}
 use native.Mathlib.Decide.{dec_le, dec_lt, ℕ_discrete}
 use native.Mathlib.Nat.{dvd-add_iff_left, le_of_dvd}
-use Rattle.order.specs.Laws.{Choice, IsLawfulChoice}
+use Rattle.policy.specs.Laws.{Choice, IsLawfulChoice}
 use Rattle.plan.specs.Contents.{Contents, Sound, at, round, settling}
 use Rattle.model.specs.Units.{State, Step}
 use Rattle.model.specs.Runs.{Run, StateAt, Misses, mark, Marked}

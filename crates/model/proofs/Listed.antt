@@ -3,7 +3,7 @@ use Rattle.std.proofs.Common.{◌≡◌, ℕ, zero, suc, ◌+◌, ◌-◌, ◌<�
 use mathlib.Core.Logic.{ite, if_pos, if_neg}
 use Rattle.std.specs.List.{range_with_len, Contains as Has}
 use Rattle.gather.proofs.Counting.{has_here}
-use Rattle.order.specs.Laws.{Choice}
+use Rattle.policy.specs.Laws.{Choice}
 use Rattle.plan.specs.Contents.{Contents, Sound, count, at}
 use Rattle.model.specs.Units.{State, left, zeros, Starts, Started, Served, Step}
 use Rattle.model.specs.Runs.{StateAt}

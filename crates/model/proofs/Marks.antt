@@ -5,7 +5,7 @@ use native.Mathlib.Decide.{dec_lt}
 use native.Mathlib.Nat.{dvd-mul_left_of_dvd}
 use Rattle.std.proofs.lemmas.List.{get_or_default}
 use Rattle.std.proofs.lemmas.List.Elements.{Contains-get_or}
-use Rattle.terms.specs.declared.handlers.Handler.{Handler}
+use Rattle.plan.specs.declared.handlers.Handler.{Handler}
 use Rattle.plan.specs.Rows.{blank, LeastRound}
 use Rattle.plan.specs.Contents.{Contents, Sound, count, at, round, settling}
 use Rattle.plan.proofs.Rounds.{round_least, settling_greatest}

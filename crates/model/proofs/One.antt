@@ -2,7 +2,7 @@
 use Rattle.std.proofs.Common.{◌≡◌, ℕ, zero, suc, ◌<◌, ◌≤◌, ◌≢◌, ◌⊎◌, sym, refl, ◌∙◌, subst, inl, inr, arith}
 use mathlib.Core.Logic.Dec
 use native.Mathlib.Decide.{ℕ_discrete}
-use Rattle.order.specs.Laws.{Choice, IsLawfulChoice}
+use Rattle.policy.specs.Laws.{Choice, IsLawfulChoice}
 use Rattle.plan.specs.Contents.{Contents, Sound, count, at}
 use Rattle.model.specs.Units.{State, Ready, GoesBefore, Running}
 use Rattle.model.specs.Theorems.{OneRuns}

@@ -2,7 +2,7 @@
 use Rattle.std.proofs.Common.{◌≡◌, ℕ, zero, suc, ◌+◌, ◌-◌, ◌<◌, ◌≤◌, ◌≢◌, ◌↔◌, sym, subst, arith}
 use Prim.Native.Nat.{◌∣◌}
 use native.Mathlib.Nat.{dvd-add_iff_left}
-use Rattle.order.specs.Laws.{Choice, IsLawfulChoice}
+use Rattle.policy.specs.Laws.{Choice, IsLawfulChoice}
 use Rattle.plan.specs.Contents.{Contents, count, at, round, settling}
 use Rattle.model.specs.Units.{State, Starts, GoesBefore, Running, Step}
 use Rattle.model.specs.Theorems.{UnitsRepeat}

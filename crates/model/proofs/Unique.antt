@@ -2,7 +2,7 @@
 use Rattle.std.proofs.Common.{◌≡◌, ℕ, suc, ◌-◌, ◌<◌, ◌≤◌, length, sym, ap, ◌∙◌, subst, ap₂, arith}
 use native.Mathlib.Decide.{dec_lt}
 use Rattle.gather.proofs.Counting.{once_fits}
-use Rattle.order.specs.Laws.{Choice}
+use Rattle.policy.specs.Laws.{Choice}
 use Rattle.plan.specs.Contents.{Contents, Sound}
 use Rattle.model.specs.declared.verdicts.Rows.TheVariants.{Working, Marks}
 use Rattle.model.specs.declared.verdicts.Verdict.{Verdict}

@@ -1,4 +1,11 @@
+pub mod Checks
+pub mod Codes
+pub mod Histories
+pub mod Laws
+pub mod Memory
+pub mod Outcomes
 pub mod Runs
+pub mod Same
 pub mod Theorems
 pub mod Units
 pub mod Verdicts

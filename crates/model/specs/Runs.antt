@@ -1,7 +1,7 @@
 -- Runs, the states that they have, and who is late in them.
 use Rattle.std.specs.Prelude.{◌≡◌, ℕ, suc, ◌+◌, ◌-◌, ◌*◌, ◌<◌, ◌≤◌}
 use Rattle.std.specs.Int.{◌∣◌}
-use Rattle.order.specs.Laws.{Choice}
+use Rattle.policy.specs.Laws.{Choice}
 use Rattle.plan.specs.Contents.{Contents, count, at, round, settling}
 use Rattle.model.specs.Units.{State, left, zeros, Step}
 

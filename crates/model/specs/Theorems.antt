@@ -1,6 +1,6 @@
 -- What is proved of the model, for every plan that can exist and every discipline that obeys its laws.
 use Rattle.std.specs.Prelude.{◌≡◌, ℕ, suc, ◌+◌, ◌-◌, ◌<◌, ◌≤◌, ◌↔◌}
-use Rattle.order.specs.Laws.{Choice, IsLawfulChoice}
+use Rattle.policy.specs.Laws.{Choice, IsLawfulChoice}
 use Rattle.plan.specs.Contents.{Contents, Sound, count, at, round, settling}
 use Rattle.model.specs.declared.verdicts.Verdict.{Verdict}
 use Rattle.model.specs.declared.verdicts.Verdict.TheVariants.{Kept, Missed}

@@ -1,9 +1,9 @@
 -- One unit of time: who starts, who is ready, who runs on each core, and what is left then. A handler goes by its place, its number less one.
 use Rattle.std.specs.Prelude.{◌≡◌, ℕ, suc, ◌-◌, ◌<◌, ◌≤◌, true, ◌≢◌, List, length, replicate, slice_index}
 use Rattle.std.specs.Int.{◌∣◌}
-use Rattle.order.specs.declared.cores.Core.{Core}
-use Rattle.order.specs.declared.candidates.Candidate.{Candidate}
-use Rattle.order.specs.Laws.{Choice}
+use Rattle.policy.specs.declared.cores.Core.{Core}
+use Rattle.policy.specs.declared.candidates.Candidate.{Candidate}
+use Rattle.policy.specs.Laws.{Choice}
 use Rattle.plan.specs.Contents.{Contents, count, at, StandsFor}
 
 -- a state: the time left of each handler, in the order of their numbers

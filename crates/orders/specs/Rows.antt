@@ -1,7 +1,7 @@
 -- The handlers of a core, as a row of candidates.
 use Rattle.std.specs.Prelude.{◌≡◌, ℕ, ◌+◌, ◌-◌, ◌≢◌, List, [], ◌∷◌, ◌++◌}
-use Rattle.order.specs.declared.cores.Core.{Core}
-use Rattle.order.specs.declared.candidates.Candidate.{Candidate}
+use Rattle.policy.specs.declared.cores.Core.{Core}
+use Rattle.policy.specs.declared.candidates.Candidate.{Candidate}
 use Rattle.plan.specs.Contents.{Contents, count, at, StandsFor}
 
 -- the candidate is the handler of this number, and that one is of the core

@@ -1,7 +1,7 @@
 -- Two answers to one call are one, and a circle is told by where the joins lead.
 use Rattle.std.proofs.Common.{◌≡◌, ℕ, ◌+◌, ◌⊎◌, Err, Result, sym, ap, ◌∙◌, inl, inr}
-use Rattle.terms.specs.declared.handlers.Handler.{Handler}
-use Rattle.terms.specs.declared.refusals.Refusal.{Refusal}
+use Rattle.plan.specs.declared.handlers.Handler.{Handler}
+use Rattle.plan.specs.declared.refusals.Refusal.{Refusal}
 use Rattle.plan.specs.Contents.{Contents, count}
 use Rattle.plan.specs.Calls.{accepts, after, Agree, OneAnswer, Registers, Joins, Reseats, added, with_join, reseated}
 

@@ -5,8 +5,8 @@ use Rattle.std.proofs.lemmas.Bool.{cases_eq, eq-eqb, ne_eqb, eqb-true, or_cases,
 use Rattle.std.proofs.Math.Seq.{take-set-lt}
 use Rattle.std.proofs.lemmas.List.{get_or-set_same, get_or-set_other, get_or-take, get_or_default, take_more_set, length-set}
 use Rattle.std.proofs.lemmas.List.Sums.{fold_push}
-use Rattle.multiples.specs.Multiples.{lcm}
-use Rattle.terms.specs.declared.handlers.Handler.{Handler}
+use Rattle.plan.specs.Multiples.{lcm}
+use Rattle.plan.specs.declared.handlers.Handler.{Handler}
 use Rattle.plan.specs.Rows.{blank, IsInRange, AllInRange, BlankFrom, round_of, settling_of}
 use Rattle.plan.specs.Joins.{joined_in, linked, Inside, OnePeriod, OneOffset, NoCircle, Wide}
 use Rattle.plan.proofs.Chains.{Leads, still_straight}

@@ -3,9 +3,9 @@ use Rattle.std.proofs.Common.{◌≡◌, ℕ, ◌<◌, ◌≤◌, false, List, [
 use denote.Struct.Record.{values_one}
 use Rattle.std.proofs.lemmas.Bool.{cases_lt}
 use Rattle.std.proofs.lemmas.List.{get_or_default, get_or-take, length-take-le, ext_get_or}
-use Rattle.terms.specs.declared.handlers.Handler.{Handler}
+use Rattle.plan.specs.declared.handlers.Handler.{Handler}
 use Rattle.plan.specs.declared.plans.Plan.{Plan}
-use Rattle.terms.specs.contracts.handlers.Handler.{the_row}
+use Rattle.plan.specs.contracts.handlers.Handler.{the_row}
 use Rattle.plan.specs.contracts.plans.Plan.{struct, the_propositions}
 use Rattle.plan.specs.Rows.{blank, AllInRange, Recurring, round_of, settling_of}
 use Rattle.plan.specs.Joins.{joined_in}

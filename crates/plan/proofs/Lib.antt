@@ -2,10 +2,11 @@ pub mod Answered
 pub mod Blanks
 pub mod Chains
 pub mod Changes
+pub mod Euclid
 pub mod Facts
 pub mod Histories
+pub mod Keeping
 pub mod Kept
 pub mod Rounds
 pub mod Routes
-pub mod Keeping
 pub mod Tested

@@ -5,9 +5,9 @@ use native.Mathlib.Nat.{le_of_dvd, pos_of_dvd_of_pos, dvd_trans, dvd_refl, dvd-m
 use Rattle.std.specs.List.{Contains as Has}
 use Rattle.std.proofs.lemmas.Bool.{cases_lt}
 use Rattle.gather.proofs.Counting.{has_here, has_there, has_cases}
-use Rattle.multiples.specs.Multiples.{lcm}
-use Rattle.multiples.proofs.Euclid.{lcm_is}
-use Rattle.terms.specs.declared.handlers.Handler.{Handler}
+use Rattle.plan.specs.Multiples.{lcm}
+use Rattle.plan.proofs.Euclid.{lcm_is}
+use Rattle.plan.specs.declared.handlers.Handler.{Handler}
 use Rattle.plan.specs.Rows.{round_from, settling_from, settling_of, Common, Recurring, RoundIsLeastCommonMultiple, GreatestOffset}
 
 -- from m on: a multiple of m and of every period, that divides every other

@@ -1,7 +1,7 @@
 -- What the tests of an accepted call let through, that nothing else is refused, and what a plan begins with.
 use Rattle.std.proofs.Common.{◌≡◌, ℕ, ◌+◌, ◌-◌, ◌<◌, ◌≤◌, ◌≢◌, ◌⊎◌, Ok, Err, is_ok, refl, sym, ap, inl, inr, true≢false, arith}
 use Rattle.std.proofs.lemmas.Bool.{cases_eq, cases_lt}
-use Rattle.terms.specs.declared.handlers.Handler.{Handler}
+use Rattle.plan.specs.declared.handlers.Handler.{Handler}
 use Rattle.plan.specs.Rows.{FitsWords, longest_round}
 use Rattle.plan.specs.Joins.{Chain, one, more}
 use Rattle.plan.specs.Contents.{Contents, count, at, Known, round, empty, Sound}

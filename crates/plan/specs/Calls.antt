@@ -1,8 +1,8 @@
 -- What the calls answer and leave, for every plan and all arguments.
 use Rattle.std.specs.Prelude.{◌≡◌, ℕ, suc, ◌+◌, ◌-◌, ◌<◌, ◌≤◌, ◌&&◌, ◌||◌, ◌≢◌, ◌⊎◌, [], ◌∷◌, ◌++◌, Ok, Err, Result, ◌==◌, slice_set}
-use Rattle.terms.specs.declared.handlers.Handler.{Handler}
-use Rattle.terms.specs.declared.refusals.Refusal.{Refusal}
-use Rattle.terms.specs.declared.refusals.Refusal.TheVariants.{PlanFull, NoPeriod, NoTimes, NoSuchCore, LongRound, NoSuchHandler, OtherTimes, Circle}
+use Rattle.plan.specs.declared.handlers.Handler.{Handler}
+use Rattle.plan.specs.declared.refusals.Refusal.{Refusal}
+use Rattle.plan.specs.declared.refusals.Refusal.TheVariants.{PlanFull, NoPeriod, NoTimes, NoSuchCore, LongRound, NoSuchHandler, OtherTimes, Circle}
 use Rattle.plan.specs.declared.plans.Plan.{Plan}
 use Rattle.plan.specs.Rows.{IsInRange, longest_round}
 use Rattle.plan.specs.Joins.{Chain}

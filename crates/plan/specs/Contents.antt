@@ -1,7 +1,7 @@
 -- The abstract plan: what a plan holds, whatever its memory looks like.
 use Rattle.std.specs.Prelude.{◌≡◌, ℕ, ◌-◌, ◌<◌, ◌≤◌, Bool, true, false, ◌&&◌, List, [], length, get_or, take, nat_le, slice_index_or}
-use Rattle.terms.specs.declared.handlers.Handler.{Handler}
-use Rattle.order.specs.declared.candidates.Candidate.{Candidate}
+use Rattle.plan.specs.declared.handlers.Handler.{Handler}
+use Rattle.policy.specs.declared.candidates.Candidate.{Candidate}
 use Rattle.plan.specs.declared.plans.Plan.{Plan}
 use Rattle.plan.specs.Rows.{blank, IsInRange, round_of, settling_of, longest_round}
 use Rattle.plan.specs.Joins.{joined_in, Chain}

@@ -1,7 +1,7 @@
 -- Sequences of calls on one plan, the first on a new one.
 use Rattle.std.specs.Prelude.{ℕ, ◌+◌, List, [], ◌∷◌, ◌++◌, Ok, Err, Result}
-use Rattle.terms.specs.declared.handlers.Handler.{Handler}
-use Rattle.terms.specs.declared.refusals.Refusal.{Refusal}
+use Rattle.plan.specs.declared.handlers.Handler.{Handler}
+use Rattle.plan.specs.declared.refusals.Refusal.{Refusal}
 use Rattle.plan.specs.Rows.{FitsWords}
 use Rattle.plan.specs.Contents.{Contents, empty}
 use Rattle.plan.specs.Calls.{Registers, Joins, Reseats}

@@ -1,6 +1,6 @@
 -- What the type of a plan says of its fields.
 use Rattle.std.specs.Prelude.{◌≡◌, ℕ, ◌≤◌, Bool, List, length, take}
-use Rattle.terms.specs.declared.handlers.Handler.{Handler}
+use Rattle.plan.specs.declared.handlers.Handler.{Handler}
 use Rattle.plan.specs.Rows.{AllInRange, BlankFrom, round_of, settling_of, longest_round, Common, Least, Divides, Bounded, Tight}
 use Rattle.plan.specs.Joins.{joined_in, Inside, OnePeriod, OneOffset, NoCircle, Wide}
 

@@ -1,6 +1,6 @@
 -- Joins: a table of which handler goes before which. Handlers go by their places, from 0; a handler's number is one more.
 use Rattle.std.specs.Prelude.{◌≡◌, ℕ, ◌<◌, Bool, true, false, List, [], length, get_or, slice_index_or, slice_set}
-use Rattle.terms.specs.declared.handlers.Handler.{Handler}
+use Rattle.plan.specs.declared.handlers.Handler.{Handler}
 use Rattle.plan.specs.Rows.{blank}
 
 -- one or more joins lead from a to b

@@ -3,5 +3,7 @@ pub mod Contents
 pub mod Histories
 pub mod Invariant
 pub mod Joins
+pub mod Multiples
+pub mod Numbers
 pub mod Routes
 pub mod Rows

@@ -2,9 +2,9 @@
 use Rattle.std.specs.Prelude.{◌≡◌, ℕ, ◌<◌, ◌≤◌, max, List, fold, slice_index_or}
 use Rattle.std.specs.Int.{◌∣◌}
 use Rattle.std.specs.List.{Contains as Has}
-use Rattle.multiples.specs.Multiples.{lcm}
-use Rattle.order.specs.Words.{FitsWord}
-use Rattle.terms.specs.declared.handlers.Handler.{Handler}
+use Rattle.plan.specs.Multiples.{lcm}
+use Rattle.policy.specs.Words.{FitsWord}
+use Rattle.plan.specs.declared.handlers.Handler.{Handler}
 
 -- what stands in a row where no handler is
 abbrev pub blank : Handler

@@ -1,7 +1,7 @@
 // The plan's type carries every fact that holds of all plans.
 ghost use Rattle.plan.specs.Invariant.{IsPlan};
 
-use terms::handlers::Handler;
+use crate::handlers::Handler;
 
 mod joining;
 mod reading;

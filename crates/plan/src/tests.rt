@@ -1,8 +1,8 @@
 // Every refusal at its edge and in its order.
+use crate::handlers::Handler;
 use crate::plans::Plan;
+use crate::refusals::Refusal;
 use std::test::Fail;
-use terms::handlers::Handler;
-use terms::refusals::Refusal;
 
 #[derive(Clone, Copy)]
 enum Call {

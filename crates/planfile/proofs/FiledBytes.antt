@@ -1,6 +1,6 @@
 -- The bytes at a place are those of the record that is read there.
 use Rattle.std.proofs.Common.{◌≡◌, ℕ, suc, ◌+◌, ◌*◌, ◌/◌, ◌%◌, ◌<◌, ◌≤◌, List, [], ◌∷◌, ◌++◌, length, drop, slice_index, sym, refl, ap, ap₂, ◌∙◌, drop-cons, arith}
-use Rattle.order.specs.Words.{FitsWord}
+use Rattle.policy.specs.Words.{FitsWord}
 use Rattle.plan.specs.Rows.{FitsWords}
 use Rattle.planfile.specs.Files.{two_bytes, handler_record}
 use Rattle.planfile.specs.Tests.{Standing, byte, word, kind_here, handler_here}

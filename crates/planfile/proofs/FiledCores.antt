@@ -3,7 +3,7 @@ use Rattle.std.proofs.Common.{◌≡◌, ℕ, suc, ◌+◌, ◌≤◌, List, [],
 use Rattle.std.specs.List.{Contains as Has}
 use Rattle.std.proofs.lemmas.List.{append_assoc, append-nil, length-drop}
 use Rattle.gather.proofs.Counting.{has_here, has_there}
-use Rattle.banks.specs.Codes.{IsCode}
+use Rattle.policy.specs.Codes.{IsCode}
 use Rattle.plan.specs.Contents.{Contents}
 use Rattle.planfile.specs.Files.{core_records}
 use Rattle.planfile.specs.Tests.{Standing}

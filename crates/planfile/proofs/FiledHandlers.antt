@@ -4,7 +4,7 @@ use Rattle.std.specs.List.{flat_map, Contains as Has}
 use Rattle.std.proofs.lemmas.List.{append_assoc, append-nil, length-append, get_or_default}
 use Rattle.std.proofs.lemmas.List.Elements.{Contains-append_left, Contains-append_right}
 use Rattle.gather.proofs.Counting.{has_here}
-use Rattle.terms.specs.declared.handlers.Handler.{Handler}
+use Rattle.plan.specs.declared.handlers.Handler.{Handler}
 use Rattle.plan.specs.Rows.{blank, IsInRange, Recurring, round_of, longest_round}
 use Rattle.plan.specs.Contents.{Contents, Sound}
 use Rattle.plan.specs.Calls.{added, Takes}

@@ -2,8 +2,8 @@
 use Rattle.std.proofs.Common.{◌≡◌, ℕ, suc, ◌+◌, ◌*◌, ◌/◌, ◌%◌, ◌<◌, ◌≤◌, List, [], ◌∷◌, ◌++◌, length, drop, Ok, sym, refl, ap, ap₂, ◌∙◌, subst, arith}
 use Rattle.std.proofs.Math.Nat.{div-add-mod}
 use Rattle.std.proofs.lemmas.List.{drop-drop, length-drop}
-use Rattle.terms.specs.declared.handlers.Handler.{Handler}
-use Rattle.banks.specs.Codes.{IsCode}
+use Rattle.plan.specs.declared.handlers.Handler.{Handler}
+use Rattle.policy.specs.Codes.{IsCode}
 use Rattle.plan.specs.Contents.{Contents, count}
 use Rattle.plan.specs.Calls.{added, Takes, Registers, with_join, MayJoin}
 use Rattle.planfile.specs.declared.records.Record.{Record}

@@ -5,10 +5,10 @@ use Rattle.std.specs.List.{Contains as Has}
 use Rattle.std.proofs.lemmas.Bool.{cases_eq, eqb-true, or_cases, and_parts}
 use Rattle.std.proofs.lemmas.List.{append_assoc, length_push}
 use Rattle.std.proofs.lemmas.List.Elements.{Contains-push_cases}
-use Rattle.terms.specs.declared.handlers.Handler.{Handler}
-use Rattle.terms.specs.declared.refusals.Refusal.{Refusal}
+use Rattle.plan.specs.declared.handlers.Handler.{Handler}
+use Rattle.plan.specs.declared.refusals.Refusal.{Refusal}
 use Rattle.plan.specs.Rows.{FitsWords}
-use Rattle.banks.specs.Codes.{IsCode}
+use Rattle.policy.specs.Codes.{IsCode}
 use Rattle.plan.specs.Contents.{Contents, empty, Sound}
 use Rattle.plan.specs.Calls.{added, Takes, Registers, with_join, MayJoin, Joins}
 use Rattle.planfile.specs.Files.{handler_record, join_record, core_record, handler_records, join_records, core_records}

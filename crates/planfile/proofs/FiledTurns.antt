@@ -2,7 +2,7 @@
 use Rattle.std.proofs.Common.{◌≡◌, ℕ, suc, ◌+◌, ◌-◌, ◌*◌, ◌<◌, ◌≤◌, Bool, true, false, ◌&&◌, List, ◌++◌, sym, refl, ap₂, subst, inl, inr, arith}
 use Rattle.std.specs.Prelude.{◌==◌}
 use Rattle.std.proofs.lemmas.Bool.{cases_lt, le-leb, eqb-true, eq-eqb, or_cases, or_left, or_right, and_parts, and_from}
-use Rattle.terms.specs.declared.handlers.Handler.{Handler}
+use Rattle.plan.specs.declared.handlers.Handler.{Handler}
 use Rattle.plan.specs.Joins.{Chain, one, more}
 use Rattle.plan.specs.Contents.{Contents, count, at, joins, Sound}
 use Rattle.plan.specs.Calls.{with_join, ClosesCircle, MayJoin}

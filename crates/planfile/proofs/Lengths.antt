@@ -2,7 +2,7 @@
 use Rattle.std.proofs.Common.{◌≡◌, ℕ, zero, suc, ◌+◌, ◌-◌, ◌*◌, ◌<◌, ◌≤◌, Bool, true, false, ◌&&◌, nat_le, cond, ◌⊎◌, List, [], ◌∷◌, ◌++◌, length, flat_map, refl, sym, ap, le_of_eq, zero-add, inl, inr, add-mul, suc-mul, length-append, arith}
 use Rattle.std.proofs.lemmas.Bool.{and_parts}
 use Rattle.std.proofs.lemmas.List.FromFn.{length-range_with_len}
-use Rattle.terms.specs.declared.handlers.Handler.{Handler}
+use Rattle.plan.specs.declared.handlers.Handler.{Handler}
 use Rattle.plan.specs.Joins.{one, more}
 use Rattle.plan.specs.Contents.{Contents, Sound, count, joins}
 use Rattle.planfile.specs.Files.{handler_record, handler_records, numbers, join_record, record_if_joined, joins_from, join_records, core_record, core_records, file_of}

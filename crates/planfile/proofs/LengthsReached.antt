@@ -2,8 +2,8 @@
 use Rattle.std.proofs.Common.{◌≡◌, ℕ, ◌<◌, true, nat_lt, ◌&&◌, List, replicate, ltb-true, refl, sym, ap, ◌∙◌, lt_trans, lt_irrefl, arith}
 use Rattle.std.proofs.lemmas.Bool.{and_parts}
 use Rattle.std.proofs.lemmas.List.{get_or-replicate}
-use Rattle.banks.specs.declared.codes.Code.TheVariants.{FixedPriority}
-use Rattle.terms.specs.declared.handlers.Handler.{Handler}
+use Rattle.policy.specs.declared.codes.Code.TheVariants.{FixedPriority}
+use Rattle.plan.specs.declared.handlers.Handler.{Handler}
 use Rattle.plan.specs.Rows.{blank, FitsWords}
 use Rattle.plan.specs.Joins.{Chain, one, more}
 use Rattle.plan.specs.Contents.{Contents, Sound, at}

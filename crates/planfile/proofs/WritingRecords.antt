@@ -1,7 +1,7 @@
 -- The records of a file, each by the number that it is of.
 use Rattle.std.proofs.Common.{◌≡◌, ℕ, suc, ◌+◌, ◌-◌, ◌<◌, ◌&&◌, nat_le, true, cond, List, [], ◌∷◌, ◌++◌, length, get_or, flat_map, le-leb, refl, sym, ap, ap₂, add-zero, add-one, ◌∙◌, arith}
 use Rattle.std.specs.List.{range_with_len}
-use Rattle.terms.specs.declared.handlers.Handler.{Handler}
+use Rattle.plan.specs.declared.handlers.Handler.{Handler}
 use Rattle.plan.specs.Rows.{blank}
 use Rattle.plan.specs.Contents.{Contents, at, count, known}
 use Rattle.planfile.specs.Files.{handler_record, handler_records, numbers, core_record, core_records}

@@ -1,6 +1,6 @@
 -- The numbers of the flaws, and of the causes of a fault.
 use Rattle.std.specs.Prelude.{ℕ}
-use Rattle.terms.specs.Numbers.{refusal_number}
+use Rattle.plan.specs.Numbers.{refusal_number}
 use Rattle.planfile.specs.declared.faults.Cause.{Cause}
 use Rattle.planfile.specs.declared.faults.Cause.TheVariants.{File, Plan}
 use Rattle.planfile.specs.declared.faults.Flaw.{Flaw}

@@ -1,8 +1,8 @@
 -- What is tested of a file, record by record, for any bytes at all.
 use Rattle.std.specs.Prelude.{◌≡◌, ◌≢◌, ℕ, suc, ◌+◌, ◌*◌, ◌<◌, ◌≤◌, ◌⊎◌, ◌==◌, if◌then◌else◌, List, [], ◌∷◌, ◌++◌, length, Some, None, Option, Ok, Err, Result, slice_index}
-use Rattle.terms.specs.declared.handlers.Handler.{Handler}
-use Rattle.terms.specs.declared.refusals.Refusal.{Refusal}
-use Rattle.banks.specs.Codes.{IsCode}
+use Rattle.plan.specs.declared.handlers.Handler.{Handler}
+use Rattle.plan.specs.declared.refusals.Refusal.{Refusal}
+use Rattle.policy.specs.Codes.{IsCode}
 use Rattle.plan.specs.Contents.{Contents}
 use Rattle.plan.specs.Calls.{refuses, Registers, Joins}
 use Rattle.planfile.specs.declared.faults.Flaw.{Flaw}

@@ -1,7 +1,7 @@
 -- What is proved of files.
 use Rattle.std.specs.Prelude.{◌≡◌, ℕ, ◌+◌, ◌<◌, ◌≤◌, ◌↔◌, List, length, take, slice_index}
 use Rattle.std.specs.List.{Contains as Has}
-use Rattle.banks.specs.Codes.{IsCode}
+use Rattle.policy.specs.Codes.{IsCode}
 use Rattle.plan.specs.Contents.{Contents, Sound}
 use Rattle.planfile.specs.declared.faults.Fault.{Fault}
 use Rattle.planfile.specs.Files.{record_length, file_of}

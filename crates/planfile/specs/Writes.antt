@@ -1,7 +1,7 @@
 -- Writing the file of a plan and the codes of its cores into a buffer.
 use Rattle.std.specs.Prelude.{◌≡◌, ℕ, ◌+◌, ◌-◌, ◌<◌, cond, List, [], ◌++◌, length, take, drop, Ok, Err, Result}
 use Rattle.std.specs.List.{Contains as Has}
-use Rattle.banks.specs.Codes.{IsCode}
+use Rattle.policy.specs.Codes.{IsCode}
 use Rattle.plan.specs.Contents.{Contents, at, known}
 use Rattle.plan.specs.Calls.{refuses}
 use Rattle.planfile.specs.declared.faults.Flaw.{Flaw}

@@ -7,8 +7,8 @@ ghost use Rattle.planfile.specs.Tests.{CodeEnters, Enters};
 use crate::faults::{Cause, Flaw};
 use crate::records::Record;
 use arrayvec::ArrayVec;
-use banks::codes::Code;
 use plan::plans::Plan;
+use policy::codes::Code;
 
 // The code of the next core.
 fn enter_code(codes: &mut ArrayVec<u8, 8>, code: u8) -> Result<(), Cause>

@@ -6,7 +6,7 @@ ghost use Rattle.planfile.specs.declared.faults.Cause.TheVariants.{Plan};
 ghost use Rattle.planfile.specs.declared.faults.Fault.{Fault};
 ghost use Rattle.planfile.specs.declared.faults.Flaw.{Flaw};
 
-use terms::refusals::Refusal;
+use plan::refusals::Refusal;
 use thiserror::Error;
 
 /// What is wrong with a file, or with what is to be written.

@@ -2,7 +2,7 @@
 ghost use Rattle.std.specs.Prelude.{◌≡◌};
 ghost use Rattle.planfile.specs.Files.{record_length};
 
-use terms::handlers::Handler;
+use plan::handlers::Handler;
 
 /// A record of a file.
 #[derive(Clone, Copy)]

@@ -7,9 +7,9 @@ ghost use Rattle.planfile.specs.Writes.{record_if_known, Puts, Writes};
 
 use crate::faults::Flaw;
 use crate::records::{CORE, END, HANDLER, JOIN, record_length};
-use banks::codes::Code;
+use plan::handlers::Handler;
 use plan::plans::Plan;
-use terms::handlers::Handler;
+use policy::codes::Code;
 
 // ---- records
 

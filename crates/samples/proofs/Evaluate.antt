@@ -3,11 +3,11 @@ use Rattle.std.proofs.Common.{ℕ, zero, suc, pred, ◌+◌, ◌-◌, Bool, true
 use Rattle.std.specs.Prelude.{◌/◌, ◌%◌, Some, None, Option, nat_lt, nat_le, ◌==◌, slice_index_or}
 use Rattle.std.specs.List.{range_with_len, list_any, list_all}
 use Rattle.std.specs.Ordering.{nat_cmp}
-use Rattle.banks.specs.declared.codes.Code.{Code}
-use Rattle.banks.specs.declared.codes.Code.TheVariants.{FixedPriority, RateMonotonic, EarliestDeadline}
-use Rattle.order.specs.Deadlines.{distance}
-use Rattle.order.specs.Meanings.{by_rank}
-use Rattle.terms.specs.declared.handlers.Handler.{Handler}
+use Rattle.policy.specs.declared.codes.Code.{Code}
+use Rattle.policy.specs.declared.codes.Code.TheVariants.{FixedPriority, RateMonotonic, EarliestDeadline}
+use Rattle.policy.specs.Deadlines.{distance}
+use Rattle.policy.specs.Meanings.{by_rank}
+use Rattle.plan.specs.declared.handlers.Handler.{Handler}
 use Rattle.plan.specs.Contents.{Contents, count, at, round, settling}
 use Rattle.model.specs.declared.verdicts.Rows.TheVariants.{Working, Marks}
 use Rattle.model.specs.declared.verdicts.Verdict.{Verdict}

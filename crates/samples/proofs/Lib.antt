@@ -1,5 +1,8 @@
+pub mod Computing
 pub mod Deciding
 pub mod Evaluate
+pub mod Example
+pub mod Mixing
 pub mod Outcomes
 pub mod Sound
 pub mod Taking

@@ -8,7 +8,7 @@ use native.Mathlib.Nat.{dvd-mul_left}
 use native.Mathlib.Decide.{ℕ_discrete}
 use Rattle.gather.specs.Levels.{Once}
 use Rattle.gather.proofs.Counting.{has_here, once_fits}
-use Rattle.order.specs.Laws.{Choice}
+use Rattle.policy.specs.Laws.{Choice}
 use Rattle.plan.specs.Contents.{Contents, Sound, count, at, round, settling}
 use Rattle.model.specs.declared.verdicts.Verdict.{Verdict}
 use Rattle.model.specs.Units.{State, left, zeros}

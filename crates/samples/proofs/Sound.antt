@@ -3,7 +3,7 @@ use Rattle.std.proofs.Common.{◌≡◌, ℕ, suc, pred, ◌^◌, ◌<◌, ◌�
 use Rattle.std.specs.Prelude.{Some, None, Option, nat_lt, nat_le, ◌==◌}
 use Rattle.std.specs.List.{list_all}
 use Rattle.std.proofs.lemmas.Bool.{eqb-true, and_parts, or_cases}
-use Rattle.terms.specs.declared.handlers.Handler.{Handler}
+use Rattle.plan.specs.declared.handlers.Handler.{Handler}
 use Rattle.plan.specs.Contents.{Contents, Sound, count, at, round, empty}
 use Rattle.plan.specs.Joins.{Chain, one, more}
 use Rattle.plan.specs.Rows.{FitsWords, IsInRange, longest_round}

@@ -5,14 +5,14 @@ use Rattle.std.specs.List.{range_with_len, Contains as Has}
 use Rattle.std.specs.Ordering.{nat_cmp}
 use Rattle.std.proofs.lemmas.Bool.{cond-true, cond-false}
 use Rattle.gather.proofs.Counting.{has_here}
-use Rattle.banks.specs.declared.codes.Code.{Code}
-use Rattle.banks.specs.declared.codes.Code.TheVariants.{FixedPriority, RateMonotonic, EarliestDeadline}
-use Rattle.banks.specs.Codes.{ranks_by, coded}
-use Rattle.order.specs.declared.cores.Core.{Core}
-use Rattle.order.specs.declared.candidates.Candidate.{Candidate}
-use Rattle.order.specs.Deadlines.{distance}
-use Rattle.order.specs.Laws.{Choice}
-use Rattle.order.specs.Meanings.{by_rank}
+use Rattle.policy.specs.declared.codes.Code.{Code}
+use Rattle.policy.specs.declared.codes.Code.TheVariants.{FixedPriority, RateMonotonic, EarliestDeadline}
+use Rattle.policy.specs.Codes.{ranks_by, coded}
+use Rattle.policy.specs.declared.cores.Core.{Core}
+use Rattle.policy.specs.declared.candidates.Candidate.{Candidate}
+use Rattle.policy.specs.Deadlines.{distance}
+use Rattle.policy.specs.Laws.{Choice}
+use Rattle.policy.specs.Meanings.{by_rank}
 use Rattle.plan.specs.Contents.{Contents, Sound, count, at}
 use Rattle.model.specs.Units.{State, left, Starts, Started, Ready, GoesBefore, Running, Served, Step}
 use Rattle.model.proofs.Asking.{OfPlace, of_place, core_of, candidate_of}

@@ -3,8 +3,8 @@ use Rattle.std.proofs.Common.{◌≡◌, ℕ, Bool, true, ◌&&◌, sym, refl, a
 use Rattle.std.specs.Prelude.{Some, Option, ◌==◌}
 use Rattle.std.specs.List.{list_all}
 use Rattle.std.proofs.lemmas.Bool.{eqb-true, and_parts}
-use Rattle.banks.proofs.Lawful.{coded_lawful}
-use Rattle.banks.specs.Codes.{coded}
+use Rattle.policy.proofs.Lawful.{coded_lawful}
+use Rattle.policy.specs.Codes.{coded}
 use Rattle.plan.specs.Contents.{empty}
 use Rattle.model.specs.declared.verdicts.Rows.TheVariants.{Working, Marks}
 use Rattle.model.specs.declared.verdicts.Verdict.{Verdict}

@@ -1,2 +1,4 @@
+pub mod Example
+pub mod Mixtures
 pub mod Plans
 pub mod Samples

@@ -1,8 +1,8 @@
 -- What the plan of a sample holds, and what a sample claims.
 use Rattle.std.specs.Prelude.{◌≡◌, ◌⊎◌, List, [], ◌∷◌, fold, Some, None, Option, Err}
-use Rattle.terms.specs.declared.refusals.Refusal.{Refusal}
-use Rattle.order.specs.Laws.{IsLawfulChoice}
-use Rattle.banks.specs.Codes.{coded}
+use Rattle.plan.specs.declared.refusals.Refusal.{Refusal}
+use Rattle.policy.specs.Laws.{IsLawfulChoice}
+use Rattle.policy.specs.Codes.{coded}
 use Rattle.plan.specs.Contents.{Contents, Sound, empty}
 use Rattle.plan.specs.Calls.{added, Takes, Registers, with_join, MayJoin, Joins}
 use Rattle.model.specs.declared.verdicts.Verdict.{Verdict}

@@ -1,8 +1,8 @@
 -- Plans with known verdicts, as one table.
 use Rattle.std.specs.Prelude.{◌≡◌, ℕ, List, [], ◌∷◌, replicate, Contains as Has, Some, None, Option}
-use Rattle.banks.specs.declared.codes.Code.{Code}
-use Rattle.banks.specs.declared.codes.Code.TheVariants.{FixedPriority, RateMonotonic, EarliestDeadline}
-use Rattle.banks.specs.Codes.{coded}
+use Rattle.policy.specs.declared.codes.Code.{Code}
+use Rattle.policy.specs.declared.codes.Code.TheVariants.{FixedPriority, RateMonotonic, EarliestDeadline}
+use Rattle.policy.specs.Codes.{coded}
 use Rattle.model.specs.declared.verdicts.Rows.TheVariants.{Working, Marks}
 use Rattle.model.specs.declared.verdicts.Verdict.{Verdict}
 use Rattle.model.specs.declared.verdicts.Verdict.TheVariants.{Kept, Missed, RowsShort}

@@ -1,16 +1,23 @@
 // Plans with known verdicts, as the calls that make them. What a check has to find of each is proved here of the model's
-// own definition of a verdict.
+// own definition of a verdict. A mixture of calls on one plan, too, and tests over several layers.
 #![tactic(auto)]
 
+#[cfg(test)]
+mod files;
 mod making;
+pub mod mixture;
+#[cfg(test)]
+mod reseating;
 mod table;
 #[cfg(test)]
 mod tests;
+#[cfg(test)]
+mod units;
 
-use banks::codes::Code;
 use model::verdicts::Verdict;
+use plan::handlers::Handler;
+use policy::codes::Code;
 pub use table::samples;
-use terms::handlers::Handler;
 
 /// A call on a plan.
 #[derive(Clone, Copy)]

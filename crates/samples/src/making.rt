@@ -5,7 +5,7 @@ ghost use Rattle.samples.specs.Plans.{called, Taken, AllTaken, Refuses, FirstRef
 
 use crate::{Call, Sample};
 use plan::plans::Plan;
-use terms::refusals::Refusal;
+use plan::refusals::Refusal;
 
 fn make(plan: &mut Plan, call: Option<Call>) -> Result<(), Refusal>
     ensures holds { OnOk result (contents plan.new ≡ called (contents plan.old) call) }

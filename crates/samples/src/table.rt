@@ -2,12 +2,12 @@
 ghost use Rattle.std.specs.Prelude.{◌≡◌};
 ghost use Rattle.samples.specs.Samples.{on, before, row, long_work, chained, two_periods, two_marks, late_first, deadline_on_two, samples, SamplesKnown, LateFirstLeft};
 ghost use Rattle.model.specs.declared.verdicts.Verdict.TheVariants.{Kept, Missed, RowsShort};
-ghost use Rattle.traces.specs.Agreement.{ArticleAgrees, ArticleAgreesByCodes, LetterDiffers};
+ghost use Rattle.literature.specs.Agreement.{ArticleAgrees, ArticleAgreesByCodes, LetterDiffers};
 
 use crate::{Call, Sample};
-use banks::codes::Code;
 use model::verdicts::{Rows, Verdict};
-use terms::handlers::Handler;
+use plan::handlers::Handler;
+use policy::codes::Code;
 
 const FIXED: [Code; 8] = [Code::FixedPriority; 8];
 

@@ -1,9 +1,9 @@
 -- Runs in which the starts take the times of a list, one after another.
 use Rattle.std.specs.Prelude.{◌≡◌, ℕ, ◌+◌, List, drop, replicate}
-use Rattle.order.specs.Laws.{Choice}
+use Rattle.policy.specs.Laws.{Choice}
 use Rattle.plan.specs.Contents.{Contents}
-use Rattle.step.specs.declared.states.State.{State}
-use Rattle.step.specs.Given.{GivenThenServed}
+use Rattle.model.specs.declared.states.State.{State}
+use Rattle.checker.specs.Given.{GivenThenServed}
 
 -- from the state at time 0, n units with the first `used` times of the list lead to the state
 pub data RunWith (p : Contents) (D : Choice) (list : List ℕ) : ℕ → ℕ → State → Type 0 where

@@ -9,15 +9,15 @@ ghost use Rattle.plan.specs.Contents.{contents};
 ghost use Rattle.show.specs.Runs.{Takes};
 
 use anyhow::anyhow;
-use banks::codes::code_bank;
-use listing::{finish, read};
-use order::disciplines::Discipline;
+use checker::given::unit_with;
+use checker::lateness::late;
+use model::states::State;
 use plan::plans::Plan;
+use plantext::listing::{finish, read};
+use policy::codes::code_bank;
+use policy::disciplines::Discipline;
 use std::process::ExitCode;
 use std::{env, io};
-use step::given::unit_with;
-use step::lateness::late;
-use step::states::State;
 
 // What the arguments ask for: a run of so many units, in which the starts take these times.
 #[derive(Drop)]

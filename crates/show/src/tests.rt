@@ -1,6 +1,6 @@
 // What is said of times that do not fit a run.
+use checker::given::Misfit;
 use std::test::Fail;
-use step::given::Misfit;
 
 #[test]
 fn a_time_that_does_not_fit_is_told_of(rt: HostRuntime) -> Result<(), Fail> {

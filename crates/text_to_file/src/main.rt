@@ -1,10 +1,10 @@
 // Reads the text form of a plan, and writes the plan's file.
 #![tactic(auto)]
 
-use listing::finish;
+use plantext::listing::finish;
+use plantext::texts::to_file;
 use std::io::{self, Write};
 use std::process::ExitCode;
-use texts::to_file;
 
 fn run(rt: &HostRuntime) -> anyhow::Result<()> {
     let text = io::read_to_string(rt.alloc(), rt.stdin())?;

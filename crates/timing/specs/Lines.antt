@@ -3,8 +3,8 @@ use Rattle.std.specs.Prelude.{ℕ}
 use Rattle.model.specs.declared.verdicts.Rows.TheVariants.{Working as WorkingRows, Marks as MarkRows}
 use Rattle.model.specs.declared.verdicts.Verdict.{Verdict}
 use Rattle.model.specs.declared.verdicts.Verdict.TheVariants.{Kept as IsKept, Missed as IsMissed, RowsShort}
-use Rattle.answers.specs.declared.words.Word.TheVariants.{Kept, Missed, Working, Marks}
-use Rattle.answers.specs.declared.words.Answer.{Answer}
+use Rattle.report.specs.declared.words.Word.TheVariants.{Kept, Missed, Working, Marks}
+use Rattle.report.specs.declared.words.Answer.{Answer}
 
 -- a verdict as a word and two numbers, for tables of so many rows
 abbrev pub said : ℕ → Verdict → Answer

@@ -1,18 +1,18 @@
 // The plan of a file, checked in tables from the heap.
 ghost use Rattle.std.specs.Prelude.{◌≡◌, map, IfOk};
-ghost use Rattle.banks.specs.Codes.{number_of, coded};
+ghost use Rattle.policy.specs.Codes.{number_of, coded};
 ghost use Rattle.plan.specs.Contents.{contents};
-ghost use Rattle.laws.specs.Checks.{tables, Checks};
+ghost use Rattle.model.specs.Checks.{tables, Checks};
 ghost use Rattle.timing.specs.Lines.{said};
 
-use answers::words::{Answer, Word};
-use banks::codes::{Code, UnknownCode, code_bank};
-use checks::check;
+use checker::check;
+use model::states::State;
 use model::verdicts::{Rows, Verdict};
 use plan::plans::Plan;
+use plan::refusals::Refusal;
+use policy::codes::{Code, UnknownCode, code_bank};
+use report::words::{Answer, Word};
 use std::alloc::{AllocError, Global};
-use step::states::State;
-use terms::refusals::Refusal;
 
 // The tables of a check: two working tables, and the mark table.
 #[derive(Drop)]

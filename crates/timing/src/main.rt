@@ -7,12 +7,12 @@
 mod judging;
 
 use crate::judging::{Tables, decoded, judge, said};
-use answers::lines::read_input;
 use anyhow::bail;
-use banks::codes::Code;
 use model::verdicts::Verdict;
 use plan::plans::Plan;
 use planfile::reading::whole::read;
+use policy::codes::Code;
+use report::lines::read_input;
 use std::env;
 use std::time::{Duration, Instant};
 

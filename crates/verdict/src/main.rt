@@ -1,7 +1,7 @@
 // Reads the file of a plan from standard input, and prints what is true of every run of that plan, or why it is no file.
 #![tactic(auto)]
 
-use answers::lines::{line, read_input};
+use report::lines::{line, read_input};
 use std::io;
 
 fn main(rt: HostRuntime) -> io::Result<()> {

@@ -1,17 +1,17 @@
 // Joins, and where they lead. Handlers go by their numbers here, as callers give them: 1 to 64.
 ghost use Rattle.std.specs.Prelude.{◌≡◌, ℕ, ◌-◌, ◌<◌, ◌≤◌, true, Ok, Err, Decides, MatchResult};
-ghost use Rattle.terms.specs.declared.handlers.Handler.{Handler};
+ghost use Rattle.plan.specs.declared.handlers.Handler.{Handler};
 ghost use Rattle.plan.specs.Joins.{joined_in};
 ghost use Rattle.plan.specs.Routes.{Led, Follows, Reaches};
 ghost use Rattle.plan.specs.Contents.{contents};
 ghost use Rattle.plan.specs.Calls.{MayJoin, Joins, Untouched};
 
+use crate::handlers::Handler;
 use crate::plans::Plan;
+use crate::refusals::Refusal;
 use arrayvec::ArrayVec;
 use gather::{Halt, Rule, gather};
 use std::convert::Infallible;
-use terms::handlers::Handler;
-use terms::refusals::Refusal;
 
 // Whether the handler of one of the numbers `from` is joined before that of number `to`.
 fn led(joins: &[[bool; 64]; 64], from: &[u8], to: u8) -> bool

@@ -3,9 +3,9 @@ ghost use Rattle.std.specs.Prelude.{◌≡◌, ◌-◌, ◌≤◌, is_some, IfSo
 ghost use Rattle.plan.specs.Rows.{IsInRange, LeastRound, GreatestOffset, longest_round};
 ghost use Rattle.plan.specs.Contents.{contents, count, at, known, round, settling, joins, StandsFor, Placed};
 
+use crate::handlers::Handler;
 use crate::plans::Plan;
-use order::candidates::Candidate;
-use terms::handlers::Handler;
+use policy::candidates::Candidate;
 
 impl Plan {
     // The row of the handler of this number.

@@ -5,11 +5,11 @@ ghost use Rattle.plan.specs.Contents.{contents, empty, round, ContentsTell, AllS
 ghost use Rattle.plan.specs.Calls.{accepts, field_tests, added, Takes, Registers, Untouched, OneAnswer};
 ghost use Rattle.plan.specs.Histories.{Call, After, accepted};
 
+use crate::handlers::Handler;
+use crate::multiples::least_common_multiple;
 use crate::plans::Plan;
-use multiples::least_common_multiple;
-use order::cores::Core;
-use terms::handlers::Handler;
-use terms::refusals::Refusal;
+use crate::refusals::Refusal;
+use policy::cores::Core;
 
 // The most handlers that a plan may have.
 const MOST_HANDLERS: u8 = 64;

@@ -4,8 +4,8 @@ ghost use Rattle.plan.specs.Contents.{contents};
 ghost use Rattle.plan.specs.Calls.{MaySeat, Reseats, Untouched};
 
 use crate::plans::Plan;
-use order::cores::Core;
-use terms::refusals::Refusal;
+use crate::refusals::Refusal;
+use policy::cores::Core;
 
 impl Plan {
     fn test_seat(&self, number: u8, core: u8) -> Result<(), Refusal>

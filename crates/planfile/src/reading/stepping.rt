@@ -9,7 +9,7 @@ ghost use Rattle.planfile.specs.Readers.{standing, Moves};
 use crate::faults::{Cause, Fault, Flaw};
 use crate::reading::Reader;
 use crate::records::{CORE, END, HANDLER, JOIN, Record};
-use terms::handlers::Handler;
+use plan::handlers::Handler;
 
 // The record that the bytes begin with, of a kind that there is, and the bytes behind it, if they do not end inside it.
 fn decode(bytes: &[u8]) -> Option<(Record, &[u8])>

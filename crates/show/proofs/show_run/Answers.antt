@@ -1,7 +1,7 @@
 use Rattle.std.proofs.Common.{rules, ◌≡◌, ◌+◌, ◌-◌, ◌≤◌, length, drop, Ok, refl, ap, subst, ◌∙◌, arith}
 use Rattle.std.proofs.lemmas.List.{drop-drop}
 use Rattle.plan.specs.Contents.{contents}
-use Rattle.step.specs.Given.{used_up, GivenThenServed}
+use Rattle.checker.specs.Given.{used_up, GivenThenServed}
 use Rattle.show.specs.Runs.{RunWith, first, unit}
 use Rattle.show.proofs.show_run.Goals as goal
 

@@ -1,4 +1,4 @@
-use Rattle.laws.proofs.Findings.{one_choice}
+use Rattle.model.proofs.Findings.{one_choice}
 use Rattle.account.proofs.Judging.{finds_known}
 use Rattle.account.proofs.checking.judge.Goals as goal
 

@@ -1,7 +1,7 @@
 use Rattle.std.proofs.Common.{◌≡◌, ◌+◌, ◌-◌, sym, ◌∙◌, subst, arith, below_more}
 use Rattle.std.proofs.lemmas.Bool.{true≢false}
 use Rattle.plan.specs.Contents.{contents, Known}
-use Rattle.fronts.specs.Fronts.{LateInOne}
+use Rattle.checker.specs.Fronts.{LateInOne}
 use Rattle.account.proofs.moments.lowest_late.Goals as goal
 
 pub loop-place-init : goal.loop-place-init

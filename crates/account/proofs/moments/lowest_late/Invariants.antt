@@ -1,6 +1,6 @@
 use Rattle.std.proofs.Common.{ℕ, ◌<◌}
 use Rattle.plan.specs.Contents.{contents}
-use Rattle.fronts.specs.Fronts.{LateInOne}
+use Rattle.checker.specs.Fronts.{LateInOne}
 use Rattle.account.proofs.moments.lowest_late.Given as goal
 
 -- nobody at an earlier place is late

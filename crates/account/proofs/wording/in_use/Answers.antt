@@ -1,7 +1,7 @@
 use Rattle.std.proofs.Common.{rules, tests, ℕ, ◌+◌, arith}
 use Rattle.std.proofs.lemmas.Iterator.{cases_from_any, YieldsList-from_range}
 use Rattle.plan.specs.Contents.{contents, count}
-use Rattle.step.proofs.Reading.{any_number}
+use Rattle.checker.proofs.Reading.{any_number}
 use Rattle.account.specs.Tellings.{IsOn}
 use Rattle.account.proofs.wording.in_use.Goals as goal
 

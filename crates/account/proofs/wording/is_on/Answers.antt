@@ -1,6 +1,6 @@
 use Rattle.std.proofs.Common.{rules, tests, ◌≡◌}
 use Rattle.plan.specs.Contents.{contents}
-use Rattle.step.proofs.Reading.{of_handler}
+use Rattle.checker.proofs.Reading.{of_handler}
 use Rattle.account.proofs.wording.is_on.Goals as goal
 
 pub returns : goal.returns

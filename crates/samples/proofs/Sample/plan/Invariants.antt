@@ -1,5 +1,5 @@
 use Rattle.std.proofs.Common.{◌≡◌, ◌↔◌, drop, fold}
-use Rattle.terms.specs.declared.refusals.Refusal.{Refusal}
+use Rattle.plan.specs.declared.refusals.Refusal.{Refusal}
 use Rattle.plan.specs.Contents.{contents, empty}
 use Rattle.samples.specs.Plans.{called, AllTaken, FirstRefused, plan_of}
 use Rattle.samples.proofs.Sample.plan.Given as goal

@@ -1,6 +1,6 @@
 use Rattle.samples.proofs.Verdicts.{samples_known, late_first_left}
-use Rattle.traces.proofs.Same.{article_agrees, article_agrees_by_codes}
-use Rattle.traces.proofs.Letter.{letter_differs}
+use Rattle.literature.proofs.Same.{article_agrees, article_agrees_by_codes}
+use Rattle.literature.proofs.Letter.{letter_differs}
 use Rattle.samples.proofs.table.samples.Goals as goal
 
 pub returns-clause-known : goal.returns-clause-known

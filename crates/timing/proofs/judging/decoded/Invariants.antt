@@ -1,4 +1,4 @@
-use Rattle.answers.proofs.Decoding.{Decoded}
+use Rattle.report.proofs.Decoding.{Decoded}
 use Rattle.timing.proofs.judging.decoded.Given as goal
 
 abbrev pub invariant-loop-place : goal.invariant-loop-place

@@ -1,5 +1,0 @@
-use Rattle.answers.proofs.Decoding.{Decoded}
-use Rattle.answers.proofs.judging.all_decoded.Given as goal
-
-abbrev pub invariant-loop-place : goal.invariant-loop-place
-invariant-loop-place l = Decoded l.numbers l.codes l.place

@@ -1,6 +1,0 @@
-use Rattle.std.proofs.Common.{refl}
-use Rattle.answers.proofs.Judged.{verdict_is}
-use Rattle.answers.proofs.judging.judged.Goals as goal
-
-pub returns : goal.returns
-returns c = verdict_is _ _ _ _ _ c.check.result c.unwrap.result c.check.ensures.checks refl refl c.code_bank.ensures c.unwrap.ensures

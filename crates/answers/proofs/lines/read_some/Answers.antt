@@ -1,5 +1,0 @@
-use Rattle.answers.proofs.Reading.{keeps_on}
-use Rattle.answers.proofs.lines.read_some.Goals as goal
-
-pub returns-in_default-clause-bytes : goal.returns-in_default-clause-bytes
-returns-in_default-clause-bytes g c = keeps_on _ _ _ c.tries.invariant c.in-Err.ensures.bytes

@@ -1,0 +1,13 @@
+pub mod Choosing
+pub mod Fronts
+pub mod Given
+pub mod Moments
+pub mod Orders
+pub mod Prepared
+pub mod Reaching
+pub mod Rows
+pub mod Serving
+pub mod Starting
+pub mod Successors
+pub mod Walks
+pub mod Watching

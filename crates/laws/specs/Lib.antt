@@ -1,4 +1,0 @@
-pub mod Checks
-pub mod Outcomes
-pub mod Histories
-pub mod Laws

@@ -1,7 +1,0 @@
-use Rattle.listing.specs.Taking.{Lists}
-use Rattle.listing.proofs.Cutting.{lines_of}
-use Rattle.listing.proofs.read.Given as goal
-
--- the listing is what the lines so far make of a new one
-abbrev pub invariant-loop-at : goal.invariant-loop-at
-invariant-loop-at l = Lists (lines_of l.yielded) l.list

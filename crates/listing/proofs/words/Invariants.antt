@@ -1,8 +1,0 @@
-use Rattle.std.proofs.Common.{◌≡◌, take}
-use Rattle.notation.specs.Lines.{texts}
-use Rattle.notation.specs.Problems.{words_read}
-use Rattle.listing.proofs.words.Given as goal
-
--- the first of the words so far
-abbrev pub invariant-loop-word : goal.invariant-loop-word
-invariant-loop-word l = texts l.words.items ≡ take words_read (texts l.yielded)

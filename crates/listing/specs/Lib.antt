@@ -1,2 +1,0 @@
-pub mod Taking
-pub mod Theorems

@@ -1,4 +1,0 @@
-pub mod Fields
-pub mod Starts
-pub mod Telling
-pub mod FirstWords

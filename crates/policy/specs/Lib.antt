@@ -1,0 +1,11 @@
+pub mod Banks
+pub mod Codes
+pub mod Deadlines
+pub mod Distances
+pub mod Lawful
+pub mod Laws
+pub mod Lexical
+pub mod Meanings
+pub mod RankLists
+pub mod Ranks
+pub mod Words

@@ -1,0 +1,5 @@
+pub mod Lines
+pub mod Records
+pub mod Said
+pub mod Texts
+pub mod Theorems

@@ -1,7 +1,0 @@
-use Rattle.std.proofs.Common.{◌≡◌, true}
-use Rattle.plan.specs.Contents.{contents}
-use Rattle.step.proofs.Words.{BitsTo}
-use Rattle.step.proofs.priorities.making.joined_before.Given as goal
-
-abbrev pub invariant-loop-other : goal.invariant-loop-other
-invariant-loop-other l = BitsTo (λ a. (contents l.plan).joined a l.place ≡ true) l.other l.places

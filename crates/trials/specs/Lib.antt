@@ -1,2 +1,0 @@
-pub mod Example
-pub mod Mixtures
