@@ -135,13 +135,18 @@ impl Listing {
         }
     }
 
-    // Takes one line of text; what follows a `#` is a comment.
-    fn add_line(&mut self, text: &str) -> Result<(), Trouble>
+    // Takes one line of text; what follows a `#` is a comment. All lines have one list of words: to
+    // make one takes longer than to read a short line.
+    fn add_line<'t>(
+        &mut self,
+        text: &'t str,
+        words: &mut ArrayVec<&'t str, WORDS>,
+    ) -> Result<(), Trouble>
         ensures took { MatchResult result (λ _. TookText text.now self.old self.new) (RefusesText text.now self.old) }
         ensures same { OnErr result (self.new ≡ self.old) }
     {
-        let words = words(before_comment(text));
-        let line = parse_words(&words)?;
+        read_words(before_comment(text), words);
+        let line = parse_words(words)?;
         self.take(line)
     }
 }
@@ -152,17 +157,17 @@ fn before_comment(text: &str) -> &str
     text.split_once('#').map_or(text, |(before, _)| before)
 }
 
-// The first words of the text, as many as are looked at.
-fn words(text: &str) -> ArrayVec<&str, WORDS>
-    ensures { BeginsWith text.now (texts result.items) }
+// Puts the first words of the text into the list, as many as are looked at, in place of what it
+// held.
+fn read_words<'t>(text: &'t str, words: &mut ArrayVec<&'t str, WORDS>)
+    ensures { BeginsWith text.now (texts words.new.items) }
 {
-    let mut words = ArrayVec::new();
+    words.clear();
     for word in text.split_whitespace() {
         if !words.is_full() {
             words.push(word);
         }
     }
-    words
 }
 
 /// Reads a whole list, up to the first line that is not taken.
@@ -173,8 +178,9 @@ pub fn read(text: &str) -> Result<Listing, Unlisted>
     ensures one_refusal { OneRefusal }
 {
     let mut list = Listing::new();
+    let mut words = ArrayVec::new();
     for (at, line) in text.lines().enumerate() {
-        list.add_line(line).map_err(|trouble| Unlisted {
+        list.add_line(line, &mut words).map_err(|trouble| Unlisted {
             line: at.saturating_add(1),
             trouble,
         })?;

@@ -32,7 +32,7 @@ core 1 code|expected `code` and a number
 core 1 code 1 1 1 1 1 1 1 1 1 1 1|nothing may follow the last number";
 
 fn trouble(heap: Global, list: &mut Listing, line: &str) -> Result<String, AllocError> {
-    match list.add_line(line) {
+    match list.add_line(line, &mut ArrayVec::new()) {
         Ok(()) => Ok(String::new(heap)),
         Err(trouble) => format!(in heap; "{trouble}"),
     }

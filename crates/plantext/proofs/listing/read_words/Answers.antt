@@ -3,7 +3,7 @@ use Rattle.std.specs.Str.Iter.{split_whitespace_rest, split_whitespace_steps}
 use Rattle.plantext.specs.Lines.{texts}
 use Rattle.plantext.specs.Taking.{SplitsInto}
 use Rattle.plantext.proofs.Cutting.{all_words}
-use Rattle.plantext.proofs.listing.words.Goals as goal
+use Rattle.plantext.proofs.listing.read_words.Goals as goal
 
 pub returns : goal.returns
 returns c =
